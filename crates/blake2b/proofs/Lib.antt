@@ -1,0 +1,3 @@
+pub mod Rounds
+pub mod Blocks
+pub mod One

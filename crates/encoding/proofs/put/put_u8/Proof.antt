@@ -1,0 +1,30 @@
+use borrow.Author.Needs.{needs}
+use native.Mathlib.Omega.{arith}
+use mathlib.Core.Path.{_≡_, refl, ap, sym, _∙_}
+use Rattle.words.proofs.Le.{length-bytes}
+use Rattle.encoding.proofs.Compact.{put-said}
+use Rattle.encoding.proofs.put.put_u8.Statement.{statement}
+use Rattle.encoding.proofs.put.put_u8.Tie as tie
+use Rattle.encoding.proofs.put.put_u8.Reads as reads
+use Rattle.encoding.proofs.put.put_u8.Lts as lts
+use Rattle.encoding.proofs.put.answered.Reads as answered-reads
+use Rattle.words.proofs.store.put_le.Reads as put-le-reads
+
+-- src/put.rt:35:14
+put-le-requires : tie.Need-put-le-requires
+put-le-requires c κs = search needs
+
+-- src/put.rt:35:5
+answered-requires : tie.Need-answered-requires
+answered-requires c κs = search needs
+
+-- src/put.rt:32:1
+same-length : tie.Need-same-length
+same-length c = search needs
+
+-- src/put.rt:32:1
+returns : tie.Need-returns
+returns c = (put-said _ _ _ _ (length-bytes _ _) (c .before .before .before .put-le .ensures .0) (c .answered .ensures), c .before .before .before .put-le .ensures .1)
+
+pub put-u8-spec : {M : Type 1} → statement M
+put-u8-spec = tie.close (tie.spec put-le-requires answered-requires same-length returns)

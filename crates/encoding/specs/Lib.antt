@@ -1,0 +1,3 @@
+pub mod Wire
+pub mod Paper
+pub mod Theorems

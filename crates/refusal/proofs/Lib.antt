@@ -1,0 +1,4 @@
+pub mod Outcomes
+pub mod Many
+pub mod Same
+pub mod One

@@ -1,0 +1,50 @@
+-- What an outcome tells of the reads that it was made of.
+use mathlib.Core.Path.{_≡_, refl, sym, ap, _∙_}
+use Prim.Native.Nat.{ℕ}
+use native.Mathlib.Omega.{arith}
+use mathlib.Core.List.{List}
+use mathlib.Core.Bool.{Bool, true, false}
+use Rattle.words.specs.Buffers.{pick}
+use Rattle.refusal.specs.Outcome.{Outcome, ok, err, then, past}
+
+-- `f r ≡ y` is what a callee ensures, and `r ≡ r′` what the arm of a match knows: y is what f says of r′
+pub told : {X Y : Type 0} (f : X → Y) {r r′ : X} {y : Y} → f r ≡ y → r ≡ r′ → y ≡ f r′
+told f e k = sym e ∙ ap f k
+
+-- an outcome is not both a value and a refusal
+pub never : {A : Type 0} {o : Outcome A} {a : A} {p : ℕ} {k : ℕ} {vs : List ℕ} {q : ℕ} → o ≡ ok a p → o ≡ err k vs q → ⊥
+never e f = let z : _≡_ {A = ℕ} 0 1 = cc in omega arith
+
+-- two reads that gave a value: the first gave one, and then the second
+pub then-ok : {A B : Type 0} (o : Outcome A) {f : A → ℕ → Outcome B} {b : B} {q : ℕ} → then o f ≡ ok b q → (a : A) × (p : ℕ) × (o ≡ ok a p) × (f a p ≡ ok b q)
+then-ok (ok a p) e = (a, p, refl, e)
+then-ok (err k vs p) {f} {b} {q} e = absurd (never e refl)
+
+-- a test that refuses, passed
+pub passed : {A : Type 0} (t : Bool) (k : ℕ) (vs : List ℕ) (q : ℕ) (o : Outcome A) {a : A} {p : ℕ} → pick t (err k vs q) o ≡ ok a p → (t ≡ false) × (o ≡ ok a p)
+passed true k vs q o e = absurd (never e refl)
+passed false k vs q o e = (refl, e)
+
+-- a refused read, and what was to come after it
+pub then-err : {A B : Type 0} (o : Outcome A) (f : A → ℕ → Outcome B) {k : ℕ} {vs : List ℕ} {q : ℕ} → past o ≡ err k vs q → then o f ≡ err k vs q
+then-err (ok a p) f e = absurd (never refl e)
+then-err (err k vs p) f e = cc
+
+-- a read whose end is known gave something
+pub past-ok : {A : Type 0} (o : Outcome A) {q : ℕ} {u : Unit} → past o ≡ ok u q → (a : A) × (o ≡ ok a q)
+past-ok (ok a p) {q} e = let h : p ≡ q = cc in (a, ap (ok a) h)
+past-ok (err k vs p) e = absurd (never e refl)
+
+pub past-err : {A : Type 0} (o : Outcome A) {k : ℕ} {vs : List ℕ} {q : ℕ} → past o ≡ err k vs q → o ≡ err k vs q
+past-err (ok a p) e = absurd (never refl e)
+past-err (err k vs p) e = cc
+
+-- reads in a row, however they are bracketed
+pub then-assoc : {A B C : Type 0} (o : Outcome A) (f : A → ℕ → Outcome B) (g : B → ℕ → Outcome C) → then (then o f) g ≡ then o (λ a p. then (f a p) g)
+then-assoc (ok a p) f g = refl
+then-assoc (err k vs p) f g = refl
+
+-- the same first read, and then what comes to the same
+pub then-under : {A B : Type 0} (o : Outcome A) (f g : A → ℕ → Outcome B) → ((a : A) (p : ℕ) → f a p ≡ g a p) → then o f ≡ then o g
+then-under (ok a p) f g h = h a p
+then-under (err k vs p) f g h = refl

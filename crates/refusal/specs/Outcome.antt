@@ -1,0 +1,33 @@
+-- What reading and writing come to, in the document's numbers.
+use Prim.Native.Nat.{ℕ, zero, suc}
+use mathlib.Core.List.{List, [], _∷_}
+
+-- a read: a value, and the position of the byte after it; or a refusal's number, what it carries, and the position where the reader then
+-- stands (document 01: "A refused read also returns the position where the Rust's `Decoder` then stands")
+pub data Outcome (A : Type 0) : Type 0 where
+  ok : A → ℕ → Outcome A
+  err : ℕ → List ℕ → ℕ → Outcome A
+
+-- one read and then, where it was not refused, another
+abbrev pub then : {A B : Type 0} → Outcome A → (A → ℕ → Outcome B) → Outcome B
+then (ok a p) f = f a p
+then (err k vs p) f = err k vs p
+
+-- only where a read ends
+abbrev pub past : {A : Type 0} → Outcome A → Outcome Unit
+past o = then o (λ a next. ok tt next)
+
+-- n reads of the same kind, one after the other
+unfoldable pub manyAt : {A : Type 0} → (ℕ → Outcome A) → ℕ → ℕ → Outcome (List A)
+manyAt read zero at = ok [] at
+manyAt read (suc n) at = then (read at) (λ x next. then (manyAt read n next) (λ xs end. ok (x ∷ xs) end))
+
+-- a write: how many bytes were written, or a refusal's number and what it carries
+pub data Wrote : Type 0 where
+  wrote : ℕ → Wrote
+  refused : ℕ → List ℕ → Wrote
+
+-- one check of a writer and then, where it was not refused, what comes after it
+abbrev pub next : Wrote → (ℕ → Wrote) → Wrote
+next (wrote n) f = f n
+next (refused k vs) f = refused k vs

@@ -1,0 +1,5 @@
+pub mod Bits
+pub mod Padding
+pub mod Sponge
+pub mod Constants
+pub mod One

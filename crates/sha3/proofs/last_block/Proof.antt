@@ -1,0 +1,57 @@
+use Prim.Native.Nat.{_-_}
+use native.Mathlib.Omega.{arith}
+use lib.ListN.{length, drop, length-drop}
+use lib.Seq.{take-all}
+use Rattle.sha3.proofs.Padding.{last-bits}
+use borrow.Author.Needs.{needs}
+use Rattle.sha3.proofs.last_block.Statement.{statement}
+use Rattle.sha3.proofs.last_block.Tie as tie
+
+sub-n : tie.Need-sub-n
+sub-n c = search needs
+
+slice-aggregate-put-bytes : tie.Need-slice-aggregate-put-bytes
+slice-aggregate-put-bytes c = search needs
+
+sub-put-bytes : tie.Need-sub-put-bytes
+sub-put-bytes c = search needs
+
+part-put-bytes-start : tie.Need-part-put-bytes-start
+part-put-bytes-start c = search needs
+
+part-put-bytes-end : tie.Need-part-put-bytes-end
+part-put-bytes-end c = search needs
+
+put-bytes-requires : tie.Need-put-bytes-requires
+put-bytes-requires c κs = search needs
+
+array-write-b : tie.Need-array-write-b
+array-write-b c = search needs
+
+array-read-b : tie.Need-array-read-b
+array-read-b c = search needs
+
+array-write-b-2 : tie.Need-array-write-b-2
+array-write-b-2 c = search needs
+
+returns : tie.Need-returns
+returns c =
+    let s = c .before .before .before .before .before in
+    let m = s .args .m .now in
+    let at = s .args .at in
+    last-bits m at _ _ (s .pre .0) (s .pre .1) (s .pre .2) (take-all (length m - at) (drop at m) (simp length-drop (omega arith))) (c .before .put-bytes .ensures .1)
+
+pub last-block-spec : {M : Type 1} → statement M
+last-block-spec =
+    tie.close
+    (tie.spec
+    sub-n
+    slice-aggregate-put-bytes
+    sub-put-bytes
+    part-put-bytes-start
+    part-put-bytes-end
+    put-bytes-requires
+    array-write-b
+    array-read-b
+    array-write-b-2
+    returns)

@@ -1,0 +1,2 @@
+pub mod Keccak
+pub mod Sha3
