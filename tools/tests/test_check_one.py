@@ -1,0 +1,109 @@
+"""Tests of check_one.py: a good tree passes, and each kind of finding is found."""
+
+import unittest
+
+from trees import TreeCase
+
+LIBRARY = """\
+pub fn plain_name(x: u8) -> u8
+    ensures { λ r. ⌜ r ≡ x ⌝ }
+{
+    x
+}
+
+fn private(x: u8) -> u8 {
+    x
+}
+
+impl Left {
+    pub fn same(self) -> u8
+        ensures { λ r. ⌜ r ≡ 1 ⌝ }
+    {
+        1
+    }
+}
+
+impl Right {
+    pub fn same(self) -> u8
+        ensures { λ r. ⌜ r ≡ 2 ⌝ }
+    {
+        2
+    }
+}
+
+pub fn open(x: u8) -> u8
+    ensures { λ r. ⌜ r ≤ x ⌝ }
+{
+    x
+}
+"""
+THEOREMS = """\
+-- pub open-one : in a comment it is none
+pub plain-name-one : (x : ℕ) → x ≡ x
+plain-name-one x = refl
+
+module _ (x : ℕ) where
+  pub left-same-one : x ≡ x
+  left-same-one = refl
+
+pub right-same-one : (x : ℕ) → x ≡ x
+right-same-one x = refl
+"""
+EXCEPTIONS = """\
+## Results that a contract leaves open
+
+| Function | Ground |
+|---|---|
+| `lib::open` | any smaller number will do |
+"""
+
+
+class CheckOne(TreeCase):
+    script = "check_one.py"
+    good = {
+        "crates.txt": "lib:\nprogram: lib\n",
+        "crates/lib/src/lib.rt": LIBRARY,
+        "crates/lib/proofs/One.antt": THEOREMS,
+        "crates/program/src/main.rt": "pub fn main() {}\n",
+        "docs/EXCEPTIONS.md": EXCEPTIONS,
+    }
+
+    def test_good(self):
+        self.assert_passes({}, "results: 4 public functions, 0 findings")
+
+    def test_theorem_missing(self):
+        self.assert_finds(
+            {"crates/lib/proofs/One.antt": THEOREMS.replace("plain-name-one", "other-one")},
+            "crates/lib/src/lib.rt:1: lib::plain_name has no theorem plain-name-one in crates/lib/proofs/One.antt",
+        )
+
+    def test_one_of_two_of_a_name(self):
+        self.assert_finds(
+            {"crates/lib/proofs/One.antt": THEOREMS.replace("right-same-one", "same-one")},
+            "crates/lib/src/lib.rt:20: lib::Right::same has no theorem right-same-one in crates/lib/proofs/One.antt",
+        )
+
+    def test_not_public(self):
+        status, lines = self.run_check({"crates/lib/proofs/One.antt": THEOREMS.replace("pub plain", "plain")})
+        self.assertEqual(status, 1)
+        self.assertIn("has no theorem plain-name-one", lines[0])
+
+    def test_no_file(self):
+        status, lines = self.run_check({"crates/lib/proofs/One.antt": None})
+        self.assertEqual((status, len(lines)), (1, 4))
+
+    def test_stale_exception(self):
+        self.assert_finds(
+            {"crates/lib/proofs/One.antt": THEOREMS + "\npub open-one : (x : ℕ) → x ≡ x\nopen-one x = refl\n"},
+            "docs/EXCEPTIONS.md:1: stale: lib::open has its theorem open-one",
+        )
+
+    def test_exception_for_nothing(self):
+        self.assert_finds(
+            {"docs/EXCEPTIONS.md": EXCEPTIONS + "| `lib::gone` | it is gone |\n"},
+            "docs/EXCEPTIONS.md:1: stale: lib::gone is no public function of a library",
+        )
+
+
+if __name__ == "__main__":
+    unittest.main()
