@@ -5,7 +5,7 @@ use native.Mathlib.Omega.{arith}
 use mathlib.Core.List.{List}
 use mathlib.Core.Bool.{Bool, true, false}
 use Rattle.words.specs.Buffers.{pick}
-use Rattle.refusal.specs.Outcome.{Outcome, ok, err, then, past}
+use Rattle.refusal.specs.Outcome.{Outcome, ok, err, then, past, Wrote, wrote, refused, next}
 
 -- `f r ≡ y` is what a callee ensures, and `r ≡ r′` what the arm of a match knows: y is what f says of r′
 pub told : {X Y : Type 0} (f : X → Y) {r r′ : X} {y : Y} → f r ≡ y → r ≡ r′ → y ≡ f r′
@@ -48,3 +48,18 @@ then-assoc (err k vs p) f g = refl
 pub then-under : {A B : Type 0} (o : Outcome A) (f g : A → ℕ → Outcome B) → ((a : A) (p : ℕ) → f a p ≡ g a p) → then o f ≡ then o g
 then-under (ok a p) f g h = h a p
 then-under (err k vs p) f g h = refl
+
+-- a read whose value is not looked at, and then another
+pub then-past : {A B : Type 0} (o : Outcome A) (f : ℕ → Outcome B) {u : Unit} {q : ℕ} → past o ≡ ok u q → then o (λ a p. f p) ≡ f q
+then-past (ok a p) f {u} {q} e = let h : p ≡ q = cc in ap f h
+then-past (err k vs p) f e = absurd (never e refl)
+
+-- two checks of a writer that passed: the first did, and then the second
+pub next-ok : (w : Wrote) {f : ℕ → Wrote} {n : ℕ} → next w f ≡ wrote n → (m : ℕ) × (w ≡ wrote m) × (f m ≡ wrote n)
+next-ok (wrote m) e = (m, refl, e)
+next-ok (refused k vs) {f} {n} e = absurd (let z : _≡_ {A = ℕ} 0 1 = cc in omega arith)
+
+-- a test of a writer that refuses, passed
+pub checked : (t : Bool) (k : ℕ) (vs : List ℕ) (w : Wrote) {n : ℕ} → pick t (refused k vs) w ≡ wrote n → (t ≡ false) × (w ≡ wrote n)
+checked true k vs w e = absurd (let z : _≡_ {A = ℕ} 0 1 = cc in omega arith)
+checked false k vs w e = (refl, e)

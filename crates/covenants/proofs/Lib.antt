@@ -1,0 +1,12 @@
+pub mod Moves
+pub mod Directory
+pub mod Places
+pub mod Checks
+pub mod Laying
+pub mod Steps
+pub mod Back
+pub mod Again
+pub mod Agree
+pub mod Theorems
+pub mod Same
+pub mod One

@@ -1,0 +1,109 @@
+-- Two results that meet a contract coincide, for each public function.
+use mathlib.Core.Path.{_≡_}
+use Prim.Native.Nat.{ℕ}
+use mathlib.Core.Bool.{Bool}
+use mathlib.Core.List.{List}
+use Rattle.words.proofs.One.{one, one-each}
+use Rattle.encoding.specs.Paper.{putPaper}
+use Rattle.encoding.specs.declared.put.Put.{Put}
+use Rattle.encoding.proofs.Same.{put-same}
+use Rattle.covenants.specs.Kind.{isName, isLinked, isUnspendable}
+use Rattle.covenants.specs.Covenant.{covenantAt, wholeCovenant, skimmed}
+use Rattle.covenants.specs.Written.{sizeAnswer, encodeAnswer, encodeContent}
+use Rattle.covenants.specs.Items.{directoryItem, seekAt, wide, numberIn}
+use Rattle.covenants.specs.Run.{runSaid, runOf, stepOf}
+use Rattle.covenants.specs.Paper.{covenantPaper, decodedPaper, shown, spotPaper, itemU8Paper, itemU32Paper, itemU64Paper, nameHashPaper, shownHash, stepPaper, runEndPaper, runStart}
+use Rattle.covenants.proofs.Same.{covenant-same, decoded-same, spot-same, item-u8-same, item-u32-same, item-u64-same, item-name-hash-same, step-same, run-end-same}
+use Rattle.covenants.specs.declared.ReadCovenant.{ReadCovenant}
+use Rattle.covenants.specs.declared.decode.Decoded.{Decoded}
+use Rattle.covenants.specs.declared.items.Spot.{Spot}
+use Rattle.covenants.specs.declared.items.ItemU8.{ItemU8}
+use Rattle.covenants.specs.declared.items.ItemU32.{ItemU32}
+use Rattle.covenants.specs.declared.items.ItemU64.{ItemU64}
+use Rattle.covenants.specs.declared.items.ItemNameHash.{ItemNameHash}
+use Rattle.covenants.specs.declared.run.Run.{Run}
+use Rattle.covenants.specs.declared.run.Step.{Step}
+use Rattle.covenants.specs.declared.run.RunEnd.{RunEnd}
+
+-- ---- kinds
+
+pub is-name-one : (kind : ℕ) {r r′ : Bool} → r ≡ isName kind → r′ ≡ isName kind → r ≡ r′
+is-name-one kind = one
+
+pub is-linked-one : (kind : ℕ) {r r′ : Bool} → r ≡ isLinked kind → r′ ≡ isLinked kind → r ≡ r′
+is-linked-one kind = one
+
+pub is-unspendable-one : (kind : ℕ) {r r′ : Bool} → r ≡ isUnspendable kind → r′ ≡ isUnspendable kind → r ≡ r′
+is-unspendable-one kind = one
+
+-- ---- reading
+
+pub read-one : (limit : ℕ) (s : List ℕ) (at : ℕ) {r r′ : ReadCovenant} → covenantPaper r ≡ skimmed (covenantAt limit s at) → covenantPaper r′ ≡ skimmed (covenantAt limit s at) → r ≡ r′
+read-one limit s at e f = covenant-same (one e f)
+
+pub decode-from-with-limit-one : (limit : ℕ) (s : List ℕ) (at : ℕ) {d d′ : Decoded} → decodedPaper d ≡ shown (covenantAt limit s at) → decodedPaper d′ ≡ shown (covenantAt limit s at) → d ≡ d′
+decode-from-with-limit-one limit s at e f = decoded-same (one e f)
+
+pub decode-from-one : (s : List ℕ) (at : ℕ) {d d′ : Decoded} → decodedPaper d ≡ shown (covenantAt 1000009 s at) → decodedPaper d′ ≡ shown (covenantAt 1000009 s at) → d ≡ d′
+decode-from-one s at e f = decoded-same (one e f)
+
+pub decode-one : (s : List ℕ) {d d′ : Decoded} → decodedPaper d ≡ shown (wholeCovenant s) → decodedPaper d′ ≡ shown (wholeCovenant s) → d ≡ d′
+decode-one s e f = decoded-same (one e f)
+
+-- ---- an item at a width
+
+module _ (s : List ℕ) (spot : Spot) where
+  pub as-u8-one : {r r′ : ItemU8} → itemU8Paper r ≡ numberIn 1 s (spotPaper spot) → itemU8Paper r′ ≡ numberIn 1 s (spotPaper spot) → r ≡ r′
+  as-u8-one e f = item-u8-same (one e f)
+
+  pub as-u32-one : {r r′ : ItemU32} → itemU32Paper r ≡ numberIn 4 s (spotPaper spot) → itemU32Paper r′ ≡ numberIn 4 s (spotPaper spot) → r ≡ r′
+  as-u32-one e f = item-u32-same (one e f)
+
+  pub as-u64-one : {r r′ : ItemU64} → itemU64Paper r ≡ numberIn 8 s (spotPaper spot) → itemU64Paper r′ ≡ numberIn 8 s (spotPaper spot) → r ≡ r′
+  as-u64-one e f = item-u64-same (one e f)
+
+  pub as-name-hash-one : {r r′ : ItemNameHash} → nameHashPaper r ≡ shownHash (wide 32 s (spotPaper spot)) → nameHashPaper r′ ≡ shownHash (wide 32 s (spotPaper spot)) → r ≡ r′
+  as-name-hash-one e f = item-name-hash-same (one e f)
+
+pub find-one : (s : List ℕ) (at index : ℕ) {r r′ : Spot} → spotPaper r ≡ seekAt s at index → spotPaper r′ ≡ seekAt s at index → r ≡ r′
+find-one s at index e f = spot-same (one e f)
+
+-- ---- over a directory
+
+module _ (source starts lens : List ℕ) (count index : ℕ) where
+  pub item-one : {r r′ : Spot} → spotPaper r ≡ directoryItem source starts lens count index → spotPaper r′ ≡ directoryItem source starts lens count index → r ≡ r′
+  item-one e f = spot-same (one e f)
+
+  pub item-u8-one : {r r′ : ItemU8} → itemU8Paper r ≡ numberIn 1 source (directoryItem source starts lens count index) → itemU8Paper r′ ≡ numberIn 1 source (directoryItem source starts lens count index) → r ≡ r′
+  item-u8-one e f = item-u8-same (one e f)
+
+  pub item-u32-one : {r r′ : ItemU32} → itemU32Paper r ≡ numberIn 4 source (directoryItem source starts lens count index) → itemU32Paper r′ ≡ numberIn 4 source (directoryItem source starts lens count index) → r ≡ r′
+  item-u32-one e f = item-u32-same (one e f)
+
+  pub item-u64-one : {r r′ : ItemU64} → itemU64Paper r ≡ numberIn 8 source (directoryItem source starts lens count index) → itemU64Paper r′ ≡ numberIn 8 source (directoryItem source starts lens count index) → r ≡ r′
+  item-u64-one e f = item-u64-same (one e f)
+
+  pub item-name-hash-one : {r r′ : ItemNameHash} → nameHashPaper r ≡ shownHash (wide 32 source (directoryItem source starts lens count index)) → nameHashPaper r′ ≡ shownHash (wide 32 source (directoryItem source starts lens count index)) → r ≡ r′
+  item-name-hash-one e f = item-name-hash-same (one e f)
+
+module _ (source starts lens : List ℕ) (count : ℕ) where
+  pub encoded-size-one : {r r′ : Put} → putPaper r ≡ sizeAnswer source starts lens count → putPaper r′ ≡ sizeAnswer source starts lens count → r ≡ r′
+  encoded-size-one e f = put-same (one e f)
+
+  -- the answer to writing the covenant, and the whole of the buffer
+  abbrev Says : (kind : ℕ) (d : List ℕ) → Put → List ℕ → Type 0
+  Says kind d r d′ = (putPaper r ≡ encodeAnswer kind source starts lens count d) × (d′ ≡ encodeContent kind source starts lens count d)
+
+  pub encode-one : (kind : ℕ) (d : List ℕ) {r r′ : Put} {d₁ d₂ : List ℕ} → Says kind d r d₁ → Says kind d r′ d₂ → (r ≡ r′) × (d₁ ≡ d₂)
+  encode-one kind d e f = let w = one-each e f in (put-same (w .0), w .1)
+
+-- ---- runs
+
+pub start-one : {r r′ : Run} → r ≡ runStart → r′ ≡ runStart → r ≡ r′
+start-one = one
+
+pub next-one : (run : Run) (s : List ℕ) (limit : ℕ) {r r′ : Step} → stepPaper r ≡ stepOf limit s (run .cursor .position) (run .count) → stepPaper r′ ≡ stepOf limit s (run .cursor .position) (run .count) → r ≡ r′
+next-one run s limit e f = step-same (one e f)
+
+pub read-run-one : (s : List ℕ) (limit : ℕ) {r r′ : RunEnd} → runEndPaper r ≡ runSaid (runOf limit s) → runEndPaper r′ ≡ runSaid (runOf limit s) → r ≡ r′
+read-run-one s limit e f = run-end-same (one e f)

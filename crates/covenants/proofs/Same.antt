@@ -1,0 +1,105 @@
+-- Two answers that say the same in the document's numbers are the same answer: each answer's paper is injective.
+use mathlib.Core.Path.{_≡_, refl, ap}
+use Prim.Native.Nat.{ℕ}
+use mathlib.Core.Bool.{Bool}
+use mathlib.Core.List.{List}
+use Rattle.refusal.specs.Outcome.{Outcome, ok, err}
+use Rattle.refusal.proofs.Same.{one-to-one, stop, stop-back}
+use Rattle.encoding.proofs.Same.{cursor}
+use Rattle.covenants.specs.Covenant.{Said}
+use Rattle.covenants.specs.Items.{Maybe, there, absent}
+use Rattle.covenants.specs.Run as run
+use Rattle.covenants.specs.Paper.{covenantPaper, decodedPaper, spotPaper, itemU8Paper, itemU32Paper, itemU64Paper, nameHashPaper, stepPaper, runEndPaper}
+use Rattle.covenants.specs.declared.Covenant.{Covenant}
+use Rattle.covenants.specs.declared.ReadCovenant.{ReadCovenant}
+use Rattle.covenants.specs.declared.decode.Decoded.{Decoded}
+use Rattle.covenants.specs.declared.items.Spot.{Spot}
+use Rattle.covenants.specs.declared.items.ItemU8.{ItemU8}
+use Rattle.covenants.specs.declared.items.ItemU32.{ItemU32}
+use Rattle.covenants.specs.declared.items.ItemU64.{ItemU64}
+use Rattle.covenants.specs.declared.items.ItemNameHash.{ItemNameHash}
+use Rattle.covenants.specs.declared.run.Step.{Step}
+use Rattle.covenants.specs.declared.run.RunEnd.{RunEnd}
+
+covenant-back : Outcome Said → ReadCovenant
+covenant-back (ok said p) = ReadCovenant.Accepted (said .0) (said .1) (said .2) (cursor p)
+covenant-back (err k vs p) = ReadCovenant.Refused (stop k vs p)
+
+covenant-again : (r : ReadCovenant) → covenant-back (covenantPaper r) ≡ r
+unfolding covenant-back
+covenant-again (ReadCovenant.Accepted kind count used next) = refl
+covenant-again (ReadCovenant.Refused s) = ap ReadCovenant.Refused (stop-back s)
+
+pub covenant-same : {r r′ : ReadCovenant} → covenantPaper r ≡ covenantPaper r′ → r ≡ r′
+covenant-same = one-to-one covenantPaper covenant-back covenant-again
+
+decoded-back : Outcome Said × Covenant → Decoded
+decoded-back t = record { read = covenant-back (t .0); covenant = t .1 }
+
+pub decoded-same : {r r′ : Decoded} → decodedPaper r ≡ decodedPaper r′ → r ≡ r′
+unfolding decoded-back
+decoded-same = one-to-one decodedPaper decoded-back (λ d. ap (λ r. record { read = r; covenant = d .covenant }) (covenant-again (d .read)))
+
+spot-back : Maybe (ℕ × ℕ) → Spot
+spot-back (there part) = Spot.Part (part .0) (part .1)
+spot-back absent = Spot.Absent
+
+pub spot-same : {r r′ : Spot} → spotPaper r ≡ spotPaper r′ → r ≡ r′
+unfolding spot-back
+spot-same = one-to-one spotPaper spot-back (elim [ Spot.Part start len ↦ refl | Spot.Absent ↦ refl ])
+
+u8-back : Maybe ℕ → ItemU8
+u8-back (there v) = ItemU8.Value v
+u8-back absent = ItemU8.Absent
+
+pub item-u8-same : {r r′ : ItemU8} → itemU8Paper r ≡ itemU8Paper r′ → r ≡ r′
+unfolding u8-back
+item-u8-same = one-to-one itemU8Paper u8-back (elim [ ItemU8.Value v ↦ refl | ItemU8.Absent ↦ refl ])
+
+u32-back : Maybe ℕ → ItemU32
+u32-back (there v) = ItemU32.Value v
+u32-back absent = ItemU32.Absent
+
+pub item-u32-same : {r r′ : ItemU32} → itemU32Paper r ≡ itemU32Paper r′ → r ≡ r′
+unfolding u32-back
+item-u32-same = one-to-one itemU32Paper u32-back (elim [ ItemU32.Value v ↦ refl | ItemU32.Absent ↦ refl ])
+
+u64-back : Maybe ℕ → ItemU64
+u64-back (there v) = ItemU64.Value v
+u64-back absent = ItemU64.Absent
+
+pub item-u64-same : {r r′ : ItemU64} → itemU64Paper r ≡ itemU64Paper r′ → r ≡ r′
+unfolding u64-back
+item-u64-same = one-to-one itemU64Paper u64-back (elim [ ItemU64.Value v ↦ refl | ItemU64.Absent ↦ refl ])
+
+hash-back : Bool × List ℕ → ItemNameHash
+hash-back t = record { found = t .0; hash = record { 0 = t .1 } }
+
+pub item-name-hash-same : {r r′ : ItemNameHash} → nameHashPaper r ≡ nameHashPaper r′ → r ≡ r′
+unfolding hash-back
+item-name-hash-same = one-to-one nameHashPaper hash-back (λ r. refl)
+
+step-back : run.Advance × ℕ → Step
+step-back t = go (t .0)
+  where
+    go : run.Advance → Step
+    go (run.covenant said next) = Step.Covenant (said .0) (said .1) (said .2) (record { cursor = cursor next; count = t .1 })
+    go (run.last run.ended) = Step.Ended (t .1)
+    go (run.last (run.stopped k vs p)) = Step.Refused (stop k vs p) (t .1)
+
+pub step-same : {r r′ : Step} → stepPaper r ≡ stepPaper r′ → r ≡ r′
+unfolding step-back
+step-same =
+    one-to-one stepPaper step-back
+    (elim [ Step.Covenant kind count used r ↦ refl | Step.Ended n ↦ refl | Step.Refused s n ↦ ap (λ x. Step.Refused x n) (stop-back s) ])
+
+run-end-back : run.End × ℕ → RunEnd
+run-end-back t = go (t .0)
+  where
+    go : run.End → RunEnd
+    go run.ended = RunEnd.Ended (t .1)
+    go (run.stopped k vs p) = RunEnd.Refused (stop k vs p) (t .1)
+
+pub run-end-same : {r r′ : RunEnd} → runEndPaper r ≡ runEndPaper r′ → r ≡ r′
+unfolding run-end-back
+run-end-same = one-to-one runEndPaper run-end-back (elim [ RunEnd.Ended n ↦ refl | RunEnd.Refused s n ↦ ap (λ x. RunEnd.Refused x n) (stop-back s) ])

@@ -1,0 +1,48 @@
+use borrow.Author.Needs.{needs}
+use borrow.Author.Tests.{eq-eqb, ne-eqb}
+use Rattle.covenants.specs.Run.{stepAt}
+use Rattle.covenants.proofs.run.Run.next.Statement.{statement}
+use Rattle.covenants.proofs.run.Run.next.Tie as tie
+
+-- src/run.rt:56:13
+returns : tie.Need-returns
+unfolding stepAt
+returns c = rw (eq-eqb _ _ (c .if1 .taken))
+
+-- src/run.rt:58:15
+read-requires : tie.Need-read-requires
+read-requires c κs = search needs
+
+-- src/run.rt:60:17
+enum-known-kind : tie.Need-enum-known-kind
+enum-known-kind c = search needs
+
+-- src/run.rt:65:21
+wrapping-add-usize-requires : tie.Need-wrapping-add-usize-requires
+wrapping-add-usize-requires c κs = search needs
+
+-- src/run.rt:76:35
+enum-known-stop : tie.Need-enum-known-stop
+enum-known-stop c = search needs
+
+-- src/run.rt:51:5
+returns-2 : tie.Need-returns-2
+unfolding stepAt
+returns-2 c = rw (ne-eqb _ _ (c .before .before .before .before .before .if1 .left), ← c .before .before .before .before .read .ensures, c .before .before .kind .given .1, ← c .wrapping-add-usize .ensures)
+
+-- src/run.rt:51:5
+returns-3 : tie.Need-returns-3
+unfolding stepAt
+returns-3 c = rw (ne-eqb _ _ (c .before .before .before .before .if1 .left), ← c .before .before .before .read .ensures, c .before .stop .given .1)
+
+pub next-spec : {M : Type 1} → statement M
+next-spec =
+    tie.close
+    (tie.spec
+    returns
+    read-requires
+    enum-known-kind
+    wrapping-add-usize-requires
+    enum-known-stop
+    returns-2
+    returns-3)

@@ -1,0 +1,95 @@
+-- What each answer says, in the document's numbers.
+use Prim.Native.Nat.{ℕ, _-_}
+use mathlib.Core.Bool.{Bool, true, false}
+use mathlib.Core.List.{List, [], _++_, map}
+use lib.ListN.{length, replicate}
+use Rattle.refusal.specs.Outcome.{Outcome, ok, err}
+use Rattle.refusal.specs.Paper.{numberOf, carried, stopped}
+use Rattle.covenants.specs.Covenant.{Reading, Said, skimmed}
+use Rattle.covenants.specs.Items.{Maybe, there, absent}
+use Rattle.covenants.specs.Run as run
+use Rattle.covenants.specs.declared.Covenant.{Covenant}
+use Rattle.covenants.specs.declared.ReadCovenant.{ReadCovenant}
+use Rattle.covenants.specs.declared.ReadHead.{ReadHead}
+use Rattle.covenants.specs.declared.decode.Decoded.{Decoded}
+use Rattle.covenants.specs.declared.run.Step.{Step}
+use Rattle.covenants.specs.declared.run.RunEnd.{RunEnd}
+use Rattle.covenants.specs.declared.run.Run.{Run}
+use Rattle.covenants.specs.declared.items.Spot.{Spot}
+use Rattle.covenants.specs.declared.items.ItemU8.{ItemU8}
+use Rattle.covenants.specs.declared.items.ItemU32.{ItemU32}
+use Rattle.covenants.specs.declared.items.ItemU64.{ItemU64}
+use Rattle.covenants.specs.declared.items.ItemNameHash.{ItemNameHash}
+
+abbrev pub covenantPaper : ReadCovenant → Outcome Said
+covenantPaper (ReadCovenant.Accepted kind count used next) = ok (kind, count, used) (next .position)
+covenantPaper (ReadCovenant.Refused s) = stopped s
+
+abbrev pub headPaper : ReadHead → Outcome (ℕ × ℕ)
+headPaper (ReadHead.Head kind count next) = ok (kind, count) (next .position)
+headPaper (ReadHead.Refused s) = stopped s
+
+-- a directory of 1,000 numbers: those that there are, and zeros
+unfoldable pub listed : List ℕ → List ℕ
+listed xs = xs ++ replicate (1000 - length xs) 0
+
+-- the covenant of a reading; "Unused parts of an answer are zeros"
+unfoldable pub directoryOf : Outcome Reading → Covenant
+unfolding listed
+directoryOf (ok c p) =
+    record {
+      kind = c .kind;
+      count = length (c .items);
+      starts = listed (map (λ (i : ℕ × ℕ). i .0) (c .items));
+      lens = listed (map (λ (i : ℕ × ℕ). i .1) (c .items));
+    }
+directoryOf (err k vs p) = record { kind = 0; count = 0; starts = listed []; lens = listed [] }
+
+abbrev pub decodedPaper : Decoded → Outcome Said × Covenant
+decodedPaper d = (covenantPaper (d .read), d .covenant)
+
+abbrev pub shown : Outcome Reading → Outcome Said × Covenant
+shown o = (skimmed o, directoryOf o)
+
+-- ---- single items
+
+abbrev pub spotPaper : Spot → Maybe (ℕ × ℕ)
+spotPaper (Spot.Part start len) = there (start, len)
+spotPaper Spot.Absent = absent
+
+abbrev pub itemU8Paper : ItemU8 → Maybe ℕ
+itemU8Paper (ItemU8.Value v) = there v
+itemU8Paper ItemU8.Absent = absent
+
+abbrev pub itemU32Paper : ItemU32 → Maybe ℕ
+itemU32Paper (ItemU32.Value v) = there v
+itemU32Paper ItemU32.Absent = absent
+
+abbrev pub itemU64Paper : ItemU64 → Maybe ℕ
+itemU64Paper (ItemU64.Value v) = there v
+itemU64Paper ItemU64.Absent = absent
+
+abbrev pub nameHashPaper : ItemNameHash → Bool × List ℕ
+nameHashPaper r = (r .found, r .hash .0)
+
+-- what is handed out of 32 bytes that may be absent: "Unused parts of an answer are zeros"
+abbrev pub shownHash : Maybe (List ℕ) → Bool × List ℕ
+shownHash (there bs) = (true, bs)
+shownHash absent = (false, replicate 32 0)
+
+-- ---- runs
+
+-- what a step says, and how many covenants there are after it
+abbrev pub stepPaper : Step → run.Advance × ℕ
+stepPaper (Step.Covenant kind count used r) = (run.covenant (kind, count, used) (r .cursor .position), r .count)
+stepPaper (Step.Ended count) = (run.last run.ended, count)
+stepPaper (Step.Refused s count) = (run.last (run.stopped (numberOf (s .refusal)) (carried (s .refusal)) (s .position)), count)
+
+-- how a run ended, and how many covenants it had
+abbrev pub runEndPaper : RunEnd → run.End × ℕ
+runEndPaper (RunEnd.Ended count) = (run.ended, count)
+runEndPaper (RunEnd.Refused s count) = (run.stopped (numberOf (s .refusal)) (carried (s .refusal)) (s .position), count)
+
+-- a run before its first covenant
+abbrev pub runStart : Run
+runStart = record { cursor = record { position = 0 }; count = 0 }

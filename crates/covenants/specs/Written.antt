@@ -1,0 +1,78 @@
+-- Writing a covenant: document 01, module 4.
+use Prim.Native.Nat.{ℕ, zero, suc, _+_, _≤_}
+use mathlib.Core.List.{List, [], _∷_, _++_}
+use lib.ListN.{length, getD}
+use lib.Dec.{ltb}
+use Rattle.words.specs.Buffers.{pick, over}
+use Rattle.refusal.specs.Outcome.{Wrote, wrote, refused, next}
+use Rattle.encoding.specs.Wire.{compact, compactSize, varbytes, putAnswer}
+use Rattle.covenants.specs.Covenant.{contents}
+
+-- ---- the bytes of a covenant, by its kind and its items
+
+unfoldable pub itemsBytes : List (List ℕ) → List ℕ
+itemsBytes [] = []
+itemsBytes (item ∷ items) = varbytes item ++ itemsBytes items
+
+-- "Kind byte; compact count, and each item a compact length, then its bytes"
+unfoldable pub covenantBytes : ℕ → List (List ℕ) → List ℕ
+covenantBytes kind items = kind ∷ (compact (length items) ++ itemsBytes items)
+
+-- how many bytes those are: the size over kind and items
+unfoldable pub itemsSize : List (List ℕ) → ℕ
+itemsSize [] = 0
+itemsSize (item ∷ items) = compactSize (length item) + length item + itemsSize items
+
+unfoldable pub covenantSize : List (List ℕ) → ℕ
+covenantSize items = 1 + compactSize (length items) + itemsSize items
+
+-- ---- the writer, from a flat directory of starts and lengths over a source
+
+-- n entries of the directory, from the i-th on
+unfoldable pub parts : List ℕ → List ℕ → ℕ → ℕ → List (ℕ × ℕ)
+parts starts lens i zero = []
+parts starts lens i (suc n) = (getD starts i 0, getD lens i 0) ∷ parts starts lens (suc i) n
+
+-- "the first item whose start plus length is above the source's length (30)"; the items are counted from i
+unfoldable pub heldFrom : ℕ → ℕ → List (ℕ × ℕ) → Wrote
+heldFrom size i [] = wrote 0
+heldFrom size i (p ∷ ps) = pick (ltb size (p .0 + p .1)) (refused 30 (i ∷ [])) (heldFrom size (suc i) ps)
+
+-- each of the items lies within a source of so many bytes
+abbrev pub Held : ℕ → List (ℕ × ℕ) → Type 0
+Held size [] = Unit
+Held size (p ∷ ps) = (p .0 + p .1 ≤ size) × Held size ps
+
+-- "then items in order: length (5), running size (5)", after so many bytes
+unfoldable pub sizeFrom : ℕ → List (ℕ × ℕ) → Wrote
+sizeFrom used [] = wrote used
+sizeFrom used (p ∷ ps) =
+    pick (ltb 1000000 (p .1)) (refused 5 (p .1 ∷ 1000000 ∷ []))
+    (pick (ltb 1000009 (used + compactSize (p .1) + p .1)) (refused 5 ((used + compactSize (p .1) + p .1) ∷ 1000009 ∷ []))
+    (sizeFrom (used + compactSize (p .1) + p .1) ps))
+
+-- "Writing: count (5), then the first item ..": the size, or the first of these refusals
+unfoldable pub sizeAnswer : List ℕ → List ℕ → List ℕ → ℕ → Wrote
+sizeAnswer source starts lens count =
+    pick (ltb 1000 count) (refused 5 (count ∷ 1000 ∷ []))
+    (next (heldFrom (length source) 0 (parts starts lens 0 count))
+    (λ nothing. sizeFrom (1 + compactSize count) (parts starts lens 0 count)))
+
+-- what the directory says to write
+abbrev pub directoryBytes : ℕ → List ℕ → List ℕ → List ℕ → ℕ → List ℕ
+directoryBytes kind source starts lens count = covenantBytes kind (contents source (parts starts lens 0 count))
+
+-- ".. then 29"
+unfoldable pub encodeAnswer : ℕ → List ℕ → List ℕ → List ℕ → ℕ → List ℕ → Wrote
+encodeAnswer kind source starts lens count d =
+    next (sizeAnswer source starts lens count) (λ size. putAnswer 0 (directoryBytes kind source starts lens count) d)
+
+-- "A write fills exactly the first n bytes and returns n; the rest is untouched"; a refused one touches nothing
+abbrev pub filled : Wrote → List ℕ → List ℕ → List ℕ
+filled (wrote n) bs d = over 0 bs d
+filled (refused k vs) bs d = d
+
+unfoldable pub encodeContent : ℕ → List ℕ → List ℕ → List ℕ → ℕ → List ℕ → List ℕ
+unfolding encodeAnswer
+encodeContent kind source starts lens count d =
+    filled (encodeAnswer kind source starts lens count d) (directoryBytes kind source starts lens count) d

@@ -1,0 +1,248 @@
+// Single items: where one stands, from a directory or straight from the bytes, and what it says at a fixed width.
+use crate::Covenant;
+use crate::ReadHead;
+use crate::head;
+use crate::pass_items;
+use encoding::read::Cursor;
+use encoding::read::Moved;
+use encoding::read::ReadSpan;
+use encoding::read::ReadU8;
+use encoding::read::ReadU32;
+use encoding::read::ReadU64;
+use primitives::NameHash;
+use words::store::has_room;
+ghost use mathlib.Core.Path.{_≡_};
+ghost use mathlib.Core.Bool.{true, false};
+ghost use Prim.Native.Nat.{_≤_};
+ghost use Rattle.refusal.specs.Outcome.{then, manyAt};
+ghost use Rattle.covenants.specs.Covenant.{itemAt};
+ghost use Rattle.covenants.specs.Items.{absent, found, directoryItem, seekAt, wide, numberIn};
+ghost use Rattle.covenants.specs.Paper.{spotPaper, itemU8Paper, itemU32Paper, itemU64Paper, nameHashPaper, shownHash};
+
+// Where an item stands: the Rust's `Option<&[u8]>`.
+pub enum Spot {
+    Part { start: usize, len: usize },
+    Absent,
+}
+
+pub enum ItemU8 {
+    Value(u8),
+    Absent,
+}
+
+pub enum ItemU32 {
+    Value(u32),
+    Absent,
+}
+
+pub enum ItemU64 {
+    Value(u64),
+    Absent,
+}
+
+// A name hash, zeros where there is none.
+pub struct ItemNameHash {
+    pub found: bool,
+    pub hash: NameHash,
+}
+
+fn no_hash() -> ItemNameHash
+    ensures { λ r. ⌜ nameHashPaper r ≡ shownHash absent ⌝ }
+{
+    ItemNameHash {
+        found: false,
+        hash: NameHash([0u8; 32]),
+    }
+}
+
+// An item answers as a number or a hash only where it is as wide and lies within the bytes.
+impl Spot {
+    pub fn as_u8(self, s: &[u8]) -> ItemU8
+        ensures { λ r. ⌜ itemU8Paper r ≡ numberIn 1 (now (s .entry)) (spotPaper self) ⌝ }
+    {
+        match self {
+            Spot::Part { start, len } => {
+                if len != 1 {
+                    return ItemU8::Absent;
+                }
+                let place = Cursor { position: start };
+                match place.read_u8(s) {
+                    ReadU8::Value(v, _) => ItemU8::Value(v),
+                    ReadU8::Refused(_) => ItemU8::Absent,
+                }
+            }
+            Spot::Absent => ItemU8::Absent,
+        }
+    }
+
+    pub fn as_u32(self, s: &[u8]) -> ItemU32
+        ensures { λ r. ⌜ itemU32Paper r ≡ numberIn 4 (now (s .entry)) (spotPaper self) ⌝ }
+    {
+        match self {
+            Spot::Part { start, len } => {
+                if len != 4 {
+                    return ItemU32::Absent;
+                }
+                let place = Cursor { position: start };
+                match place.read_u32_le(s) {
+                    ReadU32::Value(v, _) => ItemU32::Value(v),
+                    ReadU32::Refused(_) => ItemU32::Absent,
+                }
+            }
+            Spot::Absent => ItemU32::Absent,
+        }
+    }
+
+    pub fn as_u64(self, s: &[u8]) -> ItemU64
+        ensures { λ r. ⌜ itemU64Paper r ≡ numberIn 8 (now (s .entry)) (spotPaper self) ⌝ }
+    {
+        match self {
+            Spot::Part { start, len } => {
+                if len != 8 {
+                    return ItemU64::Absent;
+                }
+                let place = Cursor { position: start };
+                match place.read_u64_le(s) {
+                    ReadU64::Value(v, _) => ItemU64::Value(v),
+                    ReadU64::Refused(_) => ItemU64::Absent,
+                }
+            }
+            Spot::Absent => ItemU64::Absent,
+        }
+    }
+
+    pub fn as_name_hash(self, s: &[u8]) -> ItemNameHash
+        ensures { λ r. ⌜ nameHashPaper r ≡ shownHash (wide 32 (now (s .entry)) (spotPaper self)) ⌝ }
+    {
+        match self {
+            Spot::Part { start, len } => {
+                if len != 32 {
+                    return no_hash();
+                }
+                let place = Cursor { position: start };
+                let read = place.read_array(s);
+                let moved = read.moved;
+                match moved {
+                    Moved::To(_) => {
+                        let bytes = read.bytes;
+                        ItemNameHash {
+                            found: true,
+                            hash: NameHash(bytes),
+                        }
+                    }
+                    Moved::Refused(_) => no_hash(),
+                }
+            }
+            Spot::Absent => no_hash(),
+        }
+    }
+}
+
+// The item of a directory over `source`.
+pub fn item<'a>(
+    source: &[u8],
+    starts: &'a [usize; 1000],
+    lens: &'a [usize; 1000],
+    count: usize,
+    index: usize,
+) -> Spot
+    ensures { λ r. ⌜ spotPaper r ≡ directoryItem (now (source .entry)) (now (starts .entry)) (now (lens .entry)) count index ⌝ }
+{
+    if count <= index {
+        return Spot::Absent;
+    }
+    if Covenant::MAX_ITEMS <= index {
+        return Spot::Absent;
+    }
+    let start = starts[index];
+    let len = lens[index];
+    if has_room(source.len(), start, len) {
+        return Spot::Part { start, len };
+    }
+    Spot::Absent
+}
+
+pub fn item_u8<'a>(
+    source: &[u8],
+    starts: &'a [usize; 1000],
+    lens: &'a [usize; 1000],
+    count: usize,
+    index: usize,
+) -> ItemU8
+    ensures { λ r. ⌜ itemU8Paper r ≡ numberIn 1 (now (source .entry)) (directoryItem (now (source .entry)) (now (starts .entry)) (now (lens .entry)) count index) ⌝ }
+{
+    item(source, starts, lens, count, index).as_u8(source)
+}
+
+pub fn item_u32<'a>(
+    source: &[u8],
+    starts: &'a [usize; 1000],
+    lens: &'a [usize; 1000],
+    count: usize,
+    index: usize,
+) -> ItemU32
+    ensures { λ r. ⌜ itemU32Paper r ≡ numberIn 4 (now (source .entry)) (directoryItem (now (source .entry)) (now (starts .entry)) (now (lens .entry)) count index) ⌝ }
+{
+    item(source, starts, lens, count, index).as_u32(source)
+}
+
+pub fn item_u64<'a>(
+    source: &[u8],
+    starts: &'a [usize; 1000],
+    lens: &'a [usize; 1000],
+    count: usize,
+    index: usize,
+) -> ItemU64
+    ensures { λ r. ⌜ itemU64Paper r ≡ numberIn 8 (now (source .entry)) (directoryItem (now (source .entry)) (now (starts .entry)) (now (lens .entry)) count index) ⌝ }
+{
+    item(source, starts, lens, count, index).as_u64(source)
+}
+
+pub fn item_name_hash<'a>(
+    source: &[u8],
+    starts: &'a [usize; 1000],
+    lens: &'a [usize; 1000],
+    count: usize,
+    index: usize,
+) -> ItemNameHash
+    ensures { λ r. ⌜ nameHashPaper r ≡ shownHash (wide 32 (now (source .entry)) (directoryItem (now (source .entry)) (now (starts .entry)) (now (lens .entry)) count index)) ⌝ }
+{
+    item(source, starts, lens, count, index).as_name_hash(source)
+}
+
+// The item with `index` items before it, of a covenant that began at `start` and whose first item stands at `from`.
+fn scan(from: Cursor, s: &[u8], start: usize, index: usize) -> Spot
+    requires { ⌜ start ≤ from .position ⌝ }
+    ensures { λ r. ⌜ spotPaper r ≡ found (then (manyAt (itemAt 1000009 start (now (s .entry))) index (from .position)) (λ before next. itemAt 1000009 start (now (s .entry)) next)) ⌝ }
+{
+    match pass_items(from, s, start, Covenant::MAX_ENCODED_SIZE, index) {
+        Moved::To(next) => match crate::item(next, s, start, Covenant::MAX_ENCODED_SIZE) {
+            ReadSpan::Span {
+                start: at,
+                len,
+                next: _,
+            } => Spot::Part { start: at, len },
+            ReadSpan::Refused(_) => Spot::Absent,
+        },
+        Moved::Refused(_) => Spot::Absent,
+    }
+}
+
+// The item of the covenant that stands at c, found by a scan without a directory.
+pub fn find(c: Cursor, s: &[u8], index: usize) -> Spot
+    ensures { λ r. ⌜ spotPaper r ≡ seekAt (now (s .entry)) (c .position) index ⌝ }
+{
+    match head(c, s, Covenant::MAX_ENCODED_SIZE) {
+        ReadHead::Head {
+            kind: _,
+            count,
+            next,
+        } => {
+            if count <= index {
+                return Spot::Absent;
+            }
+            scan(next, s, c.position, index)
+        }
+        ReadHead::Refused(_) => Spot::Absent,
+    }
+}
