@@ -1,9 +1,11 @@
 -- A refusal in the document's numbers (document 01, "Refusal numbers").
 use Prim.Native.Nat.{ℕ}
 use mathlib.Core.List.{List, [], _∷_}
+use lib.ListN.{getD}
 use Rattle.refusal.specs.Outcome.{Outcome, err}
 use Rattle.refusal.specs.declared.Refusal.{Refusal}
 use Rattle.refusal.specs.declared.Stop.{Stop}
+use Rattle.refusal.specs.declared.Carried.{Carried}
 
 -- the table's first column
 abbrev pub numberOf : Refusal → ℕ
@@ -70,6 +72,10 @@ carried (Refusal.SheetField side offset) = side ∷ offset ∷ []
 carried (Refusal.SheetTooLong side length) = side ∷ length ∷ []
 carried (Refusal.NoRoom needed) = needed ∷ []
 carried (Refusal.BadItem item) = item ∷ []
+
+-- up to three of what is carried; "Unused parts of an answer are zeros"
+abbrev pub shownCarried : List ℕ → Carried
+shownCarried vs = record { first = getD vs 0 0; second = getD vs 1 0; third = getD vs 2 0 }
 
 -- a stopped read, as the outcome of reading anything
 abbrev pub stopped : {A : Type 0} → Stop → Outcome A

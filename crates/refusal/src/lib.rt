@@ -1,6 +1,7 @@
 // Why something was refused: document 01's table, one variant for each number, in its order.
 ghost use mathlib.Core.Path.{_≡_};
-ghost use Rattle.refusal.specs.Paper.{numberOf};
+ghost use mathlib.Core.List.{[], _∷_};
+ghost use Rattle.refusal.specs.Paper.{numberOf, carried, shownCarried};
 
 // The names and the carried numbers are the table's. The outpoints of 12 stand beside the refusal in the verifier's answer, since an enum here
 // holds no arrays.
@@ -94,5 +95,59 @@ pub fn number(r: Refusal) -> u8
         Refusal::SheetTooLong { side: _, length: _ } => 28,
         Refusal::NoRoom { needed: _ } => 29,
         Refusal::BadItem { item: _ } => 30,
+    }
+}
+
+// What a refusal carries, in the table's order; zeros where it carries less.
+pub struct Carried {
+    pub first: usize,
+    pub second: usize,
+    pub third: usize,
+}
+
+pub fn carried_by(r: Refusal) -> Carried
+    ensures { λ c. ⌜ c ≡ shownCarried (carried r) ⌝ }
+{
+    match r {
+        Refusal::UnexpectedEnd { offset, needed } => three(offset, needed, 0),
+        Refusal::LengthExceedsBound { actual, maximum } => three(actual, maximum, 0),
+        Refusal::TrailingBytes { remaining } => three(remaining, 0, 0),
+        Refusal::InvalidValue { width } => three(width as usize, 0, 0),
+        Refusal::TooLarge { actual, maximum } => three(actual, maximum, 0),
+        Refusal::InvalidName => three(0, 0, 0),
+        Refusal::InvalidNameState { reason } => three(reason as usize, 0, 0),
+        Refusal::NonCanonicalNameState => three(0, 0, 0),
+        Refusal::NameStateHashMismatch => three(0, 0, 0),
+        Refusal::CoinbaseRequiresIssuanceVerifier => three(0, 0, 0),
+        Refusal::InputCountMismatch { transaction, coins } => three(transaction, coins, 0),
+        Refusal::CoinOutpointMismatch { input } => three(input, 0, 0),
+        Refusal::MissingLinkedOutput { input, kind } => three(input, kind as usize, 0),
+        Refusal::InvalidTransition { input, from, to } => three(input, from as usize, to as usize),
+        Refusal::MalformedCovenant { input, field } => three(input, field as usize, 0),
+        Refusal::NameHashMismatch { input } => three(input, 0, 0),
+        Refusal::StartHeightMismatch { input } => three(input, 0, 0),
+        Refusal::BlindCommitmentMismatch { input } => three(input, 0, 0),
+        Refusal::BidValueInflation { input } => three(input, 0, 0),
+        Refusal::ClaimCannotRedeem { input } => three(input, 0, 0),
+        Refusal::AddressMismatch { input } => three(input, 0, 0),
+        Refusal::LockedValueMismatch { input } => three(input, 0, 0),
+        Refusal::TransferDestinationMismatch { input } => three(input, 0, 0),
+        Refusal::RevokedCoinSpent { input } => three(input, 0, 0),
+        Refusal::UnknownCovenantCreatesName { input, to } => three(input, to as usize, 0),
+        Refusal::UnpairedLinkedOutput { output, kind } => three(output, kind as usize, 0),
+        Refusal::SheetField { side, offset } => three(side as usize, offset, 0),
+        Refusal::SheetTooLong { side, length } => three(side as usize, length, 0),
+        Refusal::NoRoom { needed } => three(needed, 0, 0),
+        Refusal::BadItem { item } => three(item, 0, 0),
+    }
+}
+
+fn three(first: usize, second: usize, third: usize) -> Carried
+    ensures { λ c. ⌜ c ≡ shownCarried (first ∷ second ∷ third ∷ []) ⌝ }
+{
+    Carried {
+        first,
+        second,
+        third,
     }
 }
