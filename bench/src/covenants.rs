@@ -83,23 +83,28 @@ fn largest() {
 }
 
 pub fn accepting() -> Table {
-    let bytes = encoded(&register());
     let mut table = Table::new(
         "Accepting a covenant, without a directory",
         "items",
         vec![Goal(3.0)],
     );
-    table.measure(
-        "32 + 4 + 200 + 32 bytes".to_string(),
-        vec![
-            Side::new("turgamysk", || {
-                black_box(turgamysk::covenant_read(black_box(&bytes), 0, usize::MAX));
-            }),
-            Side::new("hns-rs decode", || {
-                black_box(Covenant::decode(black_box(&bytes)).is_ok());
-            }),
-        ],
-    );
+    for (label, covenant) in [
+        ("32 + 4 + 200 + 32 bytes", register()),
+        ("1,000 empty", thousand()),
+    ] {
+        let bytes = encoded(&covenant);
+        table.measure(
+            label.to_string(),
+            vec![
+                Side::new("turgamysk", || {
+                    black_box(turgamysk::covenant_read(black_box(&bytes), 0, usize::MAX));
+                }),
+                Side::new("hns-rs decode", || {
+                    black_box(Covenant::decode(black_box(&bytes)).is_ok());
+                }),
+            ],
+        );
+    }
     table
 }
 

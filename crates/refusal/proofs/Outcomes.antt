@@ -54,12 +54,30 @@ pub then-past : {A B : Type 0} (o : Outcome A) (f : ℕ → Outcome B) {u : Unit
 then-past (ok a p) f {u} {q} e = let h : p ≡ q = cc in ap f h
 then-past (err k vs p) f e = absurd (never e refl)
 
+-- a test that refuses where it fails, passed
+pub kept : {A : Type 0} (t : Bool) (k : ℕ) (vs : List ℕ) (q : ℕ) (o : Outcome A) {a : A} {p : ℕ} → pick t o (err k vs q) ≡ ok a p → (t ≡ true) × (o ≡ ok a p)
+kept true k vs q o e = (refl, e)
+kept false k vs q o e = absurd (never e refl)
+
+-- what holds of one answer holds of the same answer
+pub ok-to : {A : Type 0} {a b : A} {p q : ℕ} (P : A → ℕ → Type 0) → _≡_ {A = Outcome A} (ok a p) (ok b q) → P a p → P b q
+ok-to {A} {a} {b} {p} {q} P e h =
+    let x : a ≡ b = cc in
+    let y : p ≡ q = cc in
+    rw (← x, ← y) h
+
+-- ---- writes
+
+-- a write is not both done and refused
+pub never-both : {w : Wrote} {n k : ℕ} {vs : List ℕ} → w ≡ wrote n → w ≡ refused k vs → ⊥
+never-both e f = let z : _≡_ {A = ℕ} 0 1 = cc in omega arith
+
 -- two checks of a writer that passed: the first did, and then the second
 pub next-ok : (w : Wrote) {f : ℕ → Wrote} {n : ℕ} → next w f ≡ wrote n → (m : ℕ) × (w ≡ wrote m) × (f m ≡ wrote n)
 next-ok (wrote m) e = (m, refl, e)
-next-ok (refused k vs) {f} {n} e = absurd (let z : _≡_ {A = ℕ} 0 1 = cc in omega arith)
+next-ok (refused k vs) {f} {n} e = absurd (never-both e refl)
 
 -- a test of a writer that refuses, passed
 pub checked : (t : Bool) (k : ℕ) (vs : List ℕ) (w : Wrote) {n : ℕ} → pick t (refused k vs) w ≡ wrote n → (t ≡ false) × (w ≡ wrote n)
-checked true k vs w e = absurd (let z : _≡_ {A = ℕ} 0 1 = cc in omega arith)
+checked true k vs w e = absurd (never-both e refl)
 checked false k vs w e = (refl, e)

@@ -4,8 +4,8 @@ use Prim.Native.Nat.{ℕ, _+_, _≤_}
 use native.Mathlib.Omega.{arith}
 use mathlib.Core.List.{List, [], _++_, append-nil}
 use lib.ListN.{length, take, drop, length-append, take-append-drop}
-use Rattle.words.specs.Buffers.{over}
-use Rattle.words.proofs.Over.{over-append}
+use Rattle.words.specs.Buffers.{over, laid}
+use Rattle.words.proofs.Over.{over-append, laid-over}
 
 -- bs was laid over d from at on, and ends at end
 pub record Laid (d : List ℕ) (at : ℕ) (bs : List ℕ) (d′ : List ℕ) (end : ℕ) : Type 0 where
@@ -25,3 +25,7 @@ both {d} {d₁} {d₂} {at} {p} {q} {xs} {ys} room a b =
       ends = b .ends ∙ omega (arith, a .ends, long);
       holds = b .holds ∙ ap (λ n. over n ys d₁) (a .ends) ∙ ap (over (at + length xs) ys) (a .holds) ∙ over-append at xs ys d (omega (arith, long));
     }
+
+-- n bytes that were asked to be laid where there is room for them
+pub laid-there : (d : List ℕ) (at : ℕ) (bs : List ℕ) (n : ℕ) {end : ℕ} {d′ : List ℕ} → length bs ≡ n → at + n ≤ length d → end ≡ at + n → d′ ≡ laid at bs d → Laid d at bs d′ end
+laid-there d at bs n l h p e = record { ends = omega (arith, l, p); holds = e ∙ laid-over at bs d n l h }

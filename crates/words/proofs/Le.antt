@@ -4,7 +4,7 @@ use Prim.Native.Nat.{ℕ, zero, suc, _+_, _-_, _*_, _/_, _%_, _^_, _≤_, _<_}
 use native.Mathlib.Omega.{arith}
 use native.Mathlib.Nat.{add-zero, add-suc, pow-suc, lt-of-lt-of-le, pow-le-pow-right, div-lt-iff-lt-mul}
 use mathlib.Core.List.{List, [], _∷_, _++_}
-use lib.ListN.{length, take, drop, getD, replicate, length-append, length-replicate}
+use lib.ListN.{length, take, drop, getD, replicate, length-append, length-replicate, length-take, length-drop}
 use lib.Seq.{drop-cons, getD-drop, take-all}
 use Rattle.words.specs.Words.{le, bytes, Bytes}
 use Rattle.words.specs.Buffers.{laid}
@@ -100,3 +100,7 @@ bytes-drop n a b i = rw getD-drop (b (n + i))
 
 pub part-bytes : (s : List ℕ) (at n : ℕ) → Bytes s → Bytes (take n (drop at s))
 part-bytes s at n b = bytes-take n (drop at s) (bytes-drop at s b)
+
+-- n bytes from at on, where they are all there
+pub part-long : (s : List ℕ) (at n : ℕ) → at + n ≤ length s → length (take n (drop at s)) ≡ n
+part-long s at n h = simp (length-take, length-drop) (omega arith)

@@ -3,7 +3,7 @@ use mathlib.Core.Path.{_≡_, refl, ap, ap₂, sym, _∙_}
 use Prim.Native.Nat.{ℕ, zero, suc, _+_, _≤_, _<_}
 use native.Mathlib.Omega.{arith}
 use native.Mathlib.Numerals.{add-one}
-use mathlib.Core.List.{List, [], _∷_}
+use mathlib.Core.List.{List, [], _∷_, _++_}
 use mathlib.Core.Bool.{Bool, true, false, _&&_}
 use lib.ListN.{length, drop, getD}
 use lib.Seq.{drop-cons, drop-length, drop-nil}
@@ -55,3 +55,11 @@ same-end a b i p q =
     let e : drop i a ≡ [] = ap (λ n. drop n a) p ∙ drop-length a in
     let f : drop i b ≡ [] = ap (λ n. drop n b) q ∙ drop-length b in
     rw (e, f)
+
+-- the same bytes after both
+pub same-append : (a b zs : List ℕ) → length a ≡ length b → same a b ≡ same (a ++ zs) (b ++ zs)
+unfolding same
+same-append [] [] zs e = sym (same-refl zs)
+same-append [] (y ∷ ys) zs e = absurd (omega arith)
+same-append (x ∷ xs) [] zs e = absurd (omega arith)
+same-append (x ∷ xs) (y ∷ ys) zs e = ap (λ t. eqb x y && t) (same-append xs ys zs (omega arith))

@@ -1,0 +1,14 @@
+use mathlib.Core.Path.{refl}
+use Rattle.name_state.specs.Paper.{padded}
+use Rattle.name_state.proofs.NameState.null.Statement.{statement}
+use Rattle.name_state.proofs.NameState.null.Tie as tie
+use Rattle.name_state.proofs.NameState.null.Reads as reads
+use Rattle.name_state.proofs.NameState.null.Lts as lts
+
+-- src/lib.rt:103:5
+returns : tie.Need-returns
+unfolding padded
+returns c = refl
+
+pub null-spec : {M : Type 1} → statement M
+null-spec = tie.close (tie.spec returns)

@@ -1,0 +1,99 @@
+-- What a `NameState` holds, and what the answers say.
+use Prim.Native.Nat.{ℕ, _-_}
+use mathlib.Core.List.{List, [], _++_}
+use mathlib.Core.Bool.{true, false}
+use lib.ListN.{length, take, replicate}
+use Rattle.words.specs.Buffers.{pick}
+use Rattle.primitives.specs.Outpoints.{outpoint, nullOutpoint, isNull}
+use Rattle.name_state.specs.State.{State, null}
+use Rattle.name_state.specs.declared.NameState.{NameState}
+use Rattle.name_state.specs.declared.Owner.{Owner}
+use Rattle.name_state.specs.declared.Class.{Class}
+use Rattle.name_state.specs.declared.Binding.{Binding}
+
+-- the first n bytes of an array: "bytes past either length read as zeros and are ignored", and so are bytes past the array
+unfoldable pub text : ℕ → List ℕ → List ℕ
+text n bs = take n bs ++ replicate (n - length bs) 0
+
+-- an array of n bytes that holds bs, zeros past it
+unfoldable pub padded : ℕ → List ℕ → List ℕ
+padded n bs = bs ++ replicate (n - length bs) 0
+
+-- the state that a `NameState` holds
+abbrev pub stateOf : NameState → State
+stateOf p =
+    record {
+      key = p .«name_hash» .0;
+      name = text (p .«name_length») (p .name);
+      resource = text (p .«resource_length») (p .«resource_data»);
+      height = p .height .0;
+      renewal = p .renewal .0;
+      owner = p .owner;
+      value = p .value .0;
+      highest = p .highest .0;
+      transfer = p .transfer .0;
+      revoked = p .revoked .0;
+      claimed = p .claimed .0;
+      renewals = p .renewals;
+      registered = p .registered;
+      expired = p .expired;
+      weak = p .weak;
+    }
+
+-- the `NameState` that is made of a state: zeros past either length
+abbrev pub stored : State → NameState
+stored t =
+    record {
+      «name_hash» = record { 0 = t .key };
+      name = padded 63 (t .name);
+      «name_length» = length (t .name);
+      «resource_data» = padded 512 (t .resource);
+      «resource_length» = length (t .resource);
+      height = record { 0 = t .height };
+      renewal = record { 0 = t .renewal };
+      owner = t .owner;
+      value = record { 0 = t .value };
+      highest = record { 0 = t .highest };
+      transfer = record { 0 = t .transfer };
+      revoked = record { 0 = t .revoked };
+      claimed = record { 0 = t .claimed };
+      renewals = t .renewals;
+      registered = t .registered;
+      expired = t .expired;
+      weak = t .weak;
+    }
+
+-- the null state of a key, with a name
+abbrev pub nullState : List ℕ → List ℕ → State
+nullState key name =
+    record {
+      key = key;
+      name = name;
+      resource = [];
+      height = 0;
+      renewal = 0;
+      owner = nullOutpoint;
+      value = 0;
+      highest = 0;
+      transfer = 0;
+      revoked = 0;
+      claimed = 0;
+      renewals = 0;
+      registered = false;
+      expired = false;
+      weak = false;
+    }
+
+-- the owner, where there is one; "Unused parts of an answer are zeros"
+abbrev pub ownerOf : State → Owner
+ownerOf t = pick (isNull (t .owner)) (record { held = false; outpoint = outpoint (replicate 32 0) 0 }) (record { held = true; outpoint = t .owner })
+
+-- "CLASS is null, or held if the owner isn't null, else free"
+abbrev pub classOf : State → Class
+classOf t = pick (null t) Class.Null (pick (isNull (t .owner)) Class.Free Class.Held)
+
+-- the number of the refusal, 0 for none
+abbrev pub boundPaper : Binding → ℕ
+boundPaper Binding.Bound = 0
+boundPaper Binding.NoName = 6
+boundPaper Binding.OtherKey = 9

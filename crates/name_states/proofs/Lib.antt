@@ -1,0 +1,12 @@
+pub mod Inside
+pub mod Stored
+pub mod Canonical
+pub mod Own
+pub mod Fields
+pub mod Whole
+pub mod Checks
+pub mod Back
+pub mod Short
+pub mod Theorems
+pub mod Same
+pub mod One

@@ -1,0 +1,50 @@
+-- What the reader stores of a state.
+use mathlib.Core.Path.{_≡_, refl, ap, ap₂, _∙_}
+use Prim.Native.Nat.{ℕ, _+_, _-_, _≤_}
+use native.Mathlib.Omega.{arith}
+use mathlib.Core.List.{List, []}
+use mathlib.Core.Bool.{Bool, true, false}
+use lib.ListN.{length, take, drop, replicate}
+use lib.Dec.{eqb}
+use Rattle.words.proofs.Le.{part-long}
+use Rattle.words.specs.Buffers.{pick, laid}
+use Rattle.words.proofs.Over.{over-zeros}
+use Rattle.refusal.specs.Outcome.{Outcome, ok, err, then}
+use Rattle.encoding.specs.Wire.{finishAt}
+use Rattle.name_state.specs.State.{State, bitmap, binding}
+use Rattle.name_state.specs.Paper.{padded, stored, stateOf}
+use Rattle.name_state.specs.declared.NameState.{NameState}
+use Rattle.name_state.proofs.Theorems.{stored-holds}
+use Rattle.name_states.specs.Read.{judgedBits}
+use Rattle.name_states.specs.Paper.{beside, shownState}
+
+-- a part of the record, laid over an array of zeros
+pub padded-part : (s : List ℕ) (at n m : ℕ) {bs : List ℕ} → at + n ≤ length s → n ≤ m → bs ≡ laid 0 (take (at + n - at) (drop at s)) (replicate m 0) → bs ≡ padded m (take n (drop at s))
+unfolding padded
+padded-part s at n m h k e =
+    let long = part-long s at n h in
+    let size : at + n - at ≡ n = omega arith in
+    e ∙ rw size (over-zeros (take n (drop at s)) (m - length (take n (drop at s))) m (omega arith))
+
+-- a state from its parts
+pub stored-made : (g : State) {name resource : List ℕ} {n m : ℕ} → name ≡ padded 63 (g .name) → n ≡ length (g .name) → resource ≡ padded 512 (g .resource) → m ≡ length (g .resource)
+    → _≡_ {A = NameState} (record { «name_hash» = record { 0 = g .key }; name = name; «name_length» = n; «resource_data» = resource; «resource_length» = m; height = record { 0 = g .height }; renewal = record { 0 = g .renewal }; owner = g .owner; value = record { 0 = g .value }; highest = record { 0 = g .highest }; transfer = record { 0 = g .transfer }; revoked = record { 0 = g .revoked }; claimed = record { 0 = g .claimed }; renewals = g .renewals; registered = g .registered; expired = g .expired; weak = g .weak }) (stored g)
+stored-made g e n f m = rw (e, n, f, m)
+
+beside-stored : (s : List ℕ) (b : ℕ) (g : State) (at : ℕ) → beside (judgedBits s (b, g) at) (stored g) ≡ shownState (judgedBits s (b, g) at)
+unfolding judgedBits
+beside-stored s b g at = go (finishAt s at) (eqb (binding g) 0) (eqb (bitmap g) b)
+  where
+    go : (o : Outcome Unit) (x y : Bool) → beside (then o (λ u p. pick x (pick y (ok g p) (err 8 [] p)) (err (binding g) [] p))) (stored g)
+        ≡ shownState (then o (λ u p. pick x (pick y (ok g p) (err 8 [] p)) (err (binding g) [] p)))
+    go (ok u p) true true = refl
+    go (ok u p) true false = refl
+    go (ok u p) false y = refl
+    go (err k vs p) x y = refl
+
+-- the judgement of what was stored
+pub judged-stored : (s : List ℕ) (b : ℕ) (g : State) (at : ℕ) {n : NameState} {d : Outcome Unit × NameState} → n ≡ stored g → length (g .name) ≤ 63 → length (g .resource) ≤ 512
+    → d ≡ beside (judgedBits s (b, stateOf n) at) n → d ≡ shownState (judgedBits s (b, g) at)
+judged-stored s b g at e h k f =
+    let w = ap stateOf e ∙ stored-holds g h k in
+    f ∙ ap₂ (λ (x : State) (y : NameState). beside (judgedBits s (b, x) at) y) w e ∙ beside-stored s b g at

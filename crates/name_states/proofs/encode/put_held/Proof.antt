@@ -1,0 +1,45 @@
+use borrow.Author.Needs.{needs}
+use native.Mathlib.Omega.{arith}
+use lib.ListN.{length-append}
+use Rattle.words.proofs.Laid.{Laid, both}
+use Rattle.name_states.specs.Written.{ownHeld, ownerBytes, amountBytes}
+use Rattle.name_states.proofs.Fields.{held-long}
+use Rattle.name_states.proofs.encode.put_held.Statement.{statement}
+use Rattle.name_states.proofs.encode.put_held.Tie as tie
+use Rattle.name_states.proofs.encode.put_held.Reads as reads
+use Rattle.name_states.proofs.encode.put_held.Lts as lts
+use Rattle.name_states.proofs.encode.put_amount.Reads as put-amount-reads
+use Rattle.name_states.proofs.encode.put_owner.Reads as put-owner-reads
+
+-- src/encode.rt:159:9
+put-owner-requires : tie.Need-put-owner-requires
+put-owner-requires c κs = let a = c .before .before .args in omega (arith, held-long (a .o) (a .value) (a .highest), c .before .before .pre)
+
+-- src/encode.rt:160:9
+put-amount-requires : tie.Need-put-amount-requires
+put-amount-requires c κs = let a = c .before .before .before .before .before .before .args in omega (arith, held-long (a .o) (a .value) (a .highest), c .before .before .before .before .before .before .pre, c .before .before .before .put-owner .ensures .0, c .before .before .before .put-owner .kept .0)
+
+-- src/encode.rt:161:5
+put-amount-requires-2 : tie.Need-put-amount-requires-2
+put-amount-requires-2 c κs = let a = c .before .before .before .before .before .before .before .before .before .before .args in omega (arith, held-long (a .o) (a .value) (a .highest), c .before .before .before .before .before .before .before .before .before .before .pre, c .before .before .before .before .before .before .before .put-owner .ensures .0, c .before .before .before .before .before .before .before .put-owner .kept .0, c .before .before .before .put-amount .ensures .0, c .before .before .before .put-amount .kept .0)
+
+-- src/encode.rt:155:1
+same-length : tie.Need-same-length
+same-length c = search needs
+
+-- src/encode.rt:155:1
+returns : tie.Need-returns
+unfolding ownHeld
+returns c =
+    let a = c .before .before .before .before .before .before .before .before .before .before .before .before .before .args in
+    let l = held-long (a .o) (a .value) (a .highest) in
+    let A : Laid (a .d .now) (a .at) (ownerBytes (a .o)) (c .before .before .before .before .before .before .before .before .before .before .put-owner .last .0) (c .before .before .before .before .before .before .before .before .before .before .put-owner .result) = record { ends = c .before .before .before .before .before .before .before .before .before .before .put-owner .ensures .0; holds = c .before .before .before .before .before .before .before .before .before .before .put-owner .ensures .1 } in
+    let B : Laid (c .before .before .before .before .before .before .before .before .before .before .put-owner .last .0) (c .before .before .before .before .before .before .before .before .before .before .put-owner .result) (amountBytes (a .value)) (c .before .before .before .before .before .before .put-amount .last .0) (c .before .before .before .before .before .before .put-amount .result) = record { ends = c .before .before .before .before .before .before .put-amount .ensures .0; holds = c .before .before .before .before .before .before .put-amount .ensures .1 } in
+    let C : Laid (c .before .before .before .before .before .before .put-amount .last .0) (c .before .before .before .before .before .before .put-amount .result) (amountBytes (a .highest)) (c .before .before .put-amount2 .last .0) (c .before .before .put-amount2 .result) = record { ends = c .before .before .put-amount2 .ensures .0; holds = c .before .before .put-amount2 .ensures .1 } in
+    let r = both (omega (arith, c .before .before .before .before .before .before .before .before .before .before .before .before .before .pre)) A (both (omega (arith, l, length-append (amountBytes (a .value)) (amountBytes (a .highest)), c .before .before .before .before .before .before .before .before .before .before .before .before .before .pre, c .before .before .before .before .before .before .before .before .before .before .put-owner .ensures .0, c .before .before .before .before .before .before .before .before .before .before .put-owner .kept .0)) B C) in
+    (r .ends, r .holds)
+
+pub put-held-spec : {M : Type 1} → statement M
+put-held-spec =
+    tie.close
+    (tie.spec put-owner-requires put-amount-requires put-amount-requires-2 same-length returns)

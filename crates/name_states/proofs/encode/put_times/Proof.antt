@@ -1,0 +1,59 @@
+use borrow.Author.Needs.{needs}
+use native.Mathlib.Omega.{arith}
+use mathlib.Core.List.{_++_}
+use lib.ListN.{length-append}
+use Rattle.words.proofs.Laid.{Laid, both}
+use Rattle.name_states.specs.Written.{ownTimes, timeBytes, amountBytes}
+use Rattle.name_states.proofs.Fields.{times-long}
+use Rattle.name_states.proofs.encode.put_times.Statement.{statement}
+use Rattle.name_states.proofs.encode.put_times.Tie as tie
+use Rattle.name_states.proofs.encode.put_times.Reads as reads
+use Rattle.name_states.proofs.encode.put_times.Lts as lts
+use Rattle.name_states.proofs.encode.put_amount.Reads as put-amount-reads
+use Rattle.name_states.proofs.encode.put_time.Reads as put-time-reads
+
+-- src/encode.rt:168:9
+put-time-requires : tie.Need-put-time-requires
+put-time-requires c κs = let a = c .before .before .args in omega (arith, times-long (a .transfer) (a .revoked) (a .claimed) (a .renewals), c .before .before .pre)
+
+-- src/encode.rt:169:9
+put-time-requires-2 : tie.Need-put-time-requires-2
+put-time-requires-2 c κs = let a = c .before .before .before .before .before .before .args in omega (arith, times-long (a .transfer) (a .revoked) (a .claimed) (a .renewals), c .before .before .before .before .before .before .pre, c .before .before .before .put-time .ensures .0, c .before .before .before .put-time .kept .0)
+
+-- src/encode.rt:170:9
+put-time-requires-3 : tie.Need-put-time-requires-3
+put-time-requires-3 c κs = let a = c .before .before .before .before .before .before .before .before .before .before .args in omega (arith, times-long (a .transfer) (a .revoked) (a .claimed) (a .renewals), c .before .before .before .before .before .before .before .before .before .before .pre, c .before .before .before .before .before .before .before .put-time .ensures .0, c .before .before .before .before .before .before .before .put-time .kept .0, c .before .before .before .put-time2 .ensures .0, c .before .before .before .put-time2 .kept .0)
+
+-- src/encode.rt:171:5
+put-amount-requires : tie.Need-put-amount-requires
+put-amount-requires c κs = let a = c .before .before .before .before .before .before .before .before .before .before .before .before .before .before .args in omega (arith, times-long (a .transfer) (a .revoked) (a .claimed) (a .renewals), c .before .before .before .before .before .before .before .before .before .before .before .before .before .before .pre, c .before .before .before .before .before .before .before .before .before .before .before .put-time .ensures .0, c .before .before .before .before .before .before .before .before .before .before .before .put-time .kept .0, c .before .before .before .before .before .before .before .put-time2 .ensures .0, c .before .before .before .before .before .before .before .put-time2 .kept .0, c .before .before .before .put-time3 .ensures .0, c .before .before .before .put-time3 .kept .0)
+
+-- src/encode.rt:164:1
+same-length : tie.Need-same-length
+same-length c = search needs
+
+-- src/encode.rt:164:1
+returns : tie.Need-returns
+unfolding ownTimes
+returns c =
+    let a = c .before .before .before .before .before .before .before .before .before .before .before .before .before .before .before .before .before .args in
+    let l = times-long (a .transfer) (a .revoked) (a .claimed) (a .renewals) in
+    let A : Laid (a .d .now) (a .at) (timeBytes (a .transfer)) (c .before .before .before .before .before .before .before .before .before .before .before .before .before .before .put-time .last .0) (c .before .before .before .before .before .before .before .before .before .before .before .before .before .before .put-time .result) = record { ends = c .before .before .before .before .before .before .before .before .before .before .before .before .before .before .put-time .ensures .0; holds = c .before .before .before .before .before .before .before .before .before .before .before .before .before .before .put-time .ensures .1 } in
+    let B : Laid (c .before .before .before .before .before .before .before .before .before .before .before .before .before .before .put-time .last .0) (c .before .before .before .before .before .before .before .before .before .before .before .before .before .before .put-time .result) (timeBytes (a .revoked)) (c .before .before .before .before .before .before .before .before .before .before .put-time2 .last .0) (c .before .before .before .before .before .before .before .before .before .before .put-time2 .result) = record { ends = c .before .before .before .before .before .before .before .before .before .before .put-time2 .ensures .0; holds = c .before .before .before .before .before .before .before .before .before .before .put-time2 .ensures .1 } in
+    let C : Laid (c .before .before .before .before .before .before .before .before .before .before .put-time2 .last .0) (c .before .before .before .before .before .before .before .before .before .before .put-time2 .result) (timeBytes (a .claimed)) (c .before .before .before .before .before .before .put-time3 .last .0) (c .before .before .before .before .before .before .put-time3 .result) = record { ends = c .before .before .before .before .before .before .put-time3 .ensures .0; holds = c .before .before .before .before .before .before .put-time3 .ensures .1 } in
+    let D : Laid (c .before .before .before .before .before .before .put-time3 .last .0) (c .before .before .before .before .before .before .put-time3 .result) (amountBytes (a .renewals)) (c .before .before .put-amount .last .0) (c .before .before .put-amount .result) = record { ends = c .before .before .put-amount .ensures .0; holds = c .before .before .put-amount .ensures .1 } in
+    let l₁ = length-append (timeBytes (a .transfer)) (timeBytes (a .revoked)) in
+    let l₂ = length-append (timeBytes (a .transfer) ++ timeBytes (a .revoked)) (timeBytes (a .claimed)) in
+    let r = both (omega (arith, c .before .before .before .before .before .before .before .before .before .before .before .before .before .before .before .before .before .pre)) (both (omega (arith, l, l₁, l₂, c .before .before .before .before .before .before .before .before .before .before .before .before .before .before .before .before .before .pre)) (both (omega (arith, l, l₁, c .before .before .before .before .before .before .before .before .before .before .before .before .before .before .before .before .before .pre)) A B) C) D in
+    (r .ends, r .holds)
+
+pub put-times-spec : {M : Type 1} → statement M
+put-times-spec =
+    tie.close
+    (tie.spec
+    put-time-requires
+    put-time-requires-2
+    put-time-requires-3
+    put-amount-requires
+    same-length
+    returns)

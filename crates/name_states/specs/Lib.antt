@@ -1,0 +1,4 @@
+pub mod Written
+pub mod Read
+pub mod Paper
+pub mod Theorems

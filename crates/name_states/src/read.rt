@@ -1,0 +1,349 @@
+// The fields of a record, from left to right: where the name and the resource stand, and the numbers.
+use encoding::read::Cursor;
+use encoding::read::Moved;
+use encoding::read::ReadSpan;
+use encoding::read::ReadU8;
+use encoding::read::ReadU16;
+use encoding::read::ReadU32;
+use encoding::read::ReadU64;
+use primitives::Outpoint;
+use primitives::ReadOutpoint;
+use primitives::TransactionHash;
+use refusal::Refusal;
+use refusal::Stop;
+ghost use mathlib.Core.Path.{_≡_};
+ghost use Rattle.refusal.specs.Outcome.{then};
+ghost use Rattle.encoding.specs.declared.read.Moved.{Moved};
+ghost use Rattle.encoding.specs.Wire.{fixedAt, compactAt, sliceAt};
+ghost use Rattle.encoding.specs.Paper.{spanPaper, u16Paper, u32Paper, u64Paper};
+ghost use Rattle.primitives.specs.Outpoints.{nullOutpoint};
+ghost use Rattle.name_states.specs.Read.{upTo, textAt, textsAt, numbersAt, present, ownerAt, amountAt, amountsAt, heldAt, timesAt};
+ghost use Rattle.name_states.specs.Paper.{textsPaper, numbersPaper, ownerPaper, amountsPaper, heldPaper, timesPaper};
+
+// Where the name and the resource stand.
+pub struct Texts {
+    pub name_at: usize,
+    pub name_length: usize,
+    pub resource_at: usize,
+    pub resource_length: usize,
+}
+
+pub enum ReadTexts {
+    Value(Texts, Cursor),
+    Refused(Stop),
+}
+
+pub struct Numbers {
+    pub height: u32,
+    pub renewal: u32,
+    pub bits: u16,
+}
+
+pub enum ReadNumbers {
+    Value(Numbers, Cursor),
+    Refused(Stop),
+}
+
+pub struct Amounts {
+    pub value: u64,
+    pub highest: u64,
+}
+
+pub enum ReadAmounts {
+    Value(Amounts, Cursor),
+    Refused(Stop),
+}
+
+// Value and highest, and the owner beside them.
+pub struct ReadHeld {
+    pub read: ReadAmounts,
+    pub owner: Outpoint,
+}
+
+pub struct Times {
+    pub transfer: u32,
+    pub revoked: u32,
+    pub claimed: u32,
+    pub renewals: u32,
+}
+
+pub enum ReadTimes {
+    Value(Times, Cursor),
+    Refused(Stop),
+}
+
+// At most a maximum, or refused for a reason.
+fn at_most(read: ReadU64, maximum: u64, reason: u8) -> ReadU64
+    ensures { λ r. ⌜ u64Paper r ≡ then (u64Paper read) (upTo maximum reason) ⌝ }
+{
+    match read {
+        ReadU64::Value(v, next) => {
+            if maximum < v {
+                ReadU64::Refused(Stop {
+                    refusal: Refusal::InvalidNameState { reason },
+                    position: next.position,
+                })
+            } else {
+                ReadU64::Value(v, next)
+            }
+        }
+        ReadU64::Refused(stop) => ReadU64::Refused(stop),
+    }
+}
+
+// A text whose length was read.
+fn read_body(s: &[u8], next: Cursor, n: usize, maximum: usize, reason: u8) -> ReadSpan
+    ensures { λ r. ⌜ spanPaper r ≡ then (upTo maximum reason n (next .position)) (λ n at. sliceAt n (now (s .entry)) at) ⌝ }
+{
+    if maximum < n {
+        return ReadSpan::Refused(Stop {
+            refusal: Refusal::InvalidNameState { reason },
+            position: next.position,
+        });
+    }
+    next.read_slice(s, n)
+}
+
+fn read_name(s: &[u8], c: Cursor) -> ReadSpan
+    ensures { λ r. ⌜ spanPaper r ≡ textAt 1 63 1 (now (s .entry)) (c .position) ⌝ }
+{
+    match c.read_u8(s) {
+        ReadU8::Value(n, next) => read_body(s, next, n as usize, 63, 1),
+        ReadU8::Refused(stop) => ReadSpan::Refused(stop),
+    }
+}
+
+fn read_resource(s: &[u8], c: Cursor) -> ReadSpan
+    ensures { λ r. ⌜ spanPaper r ≡ textAt 2 512 2 (now (s .entry)) (c .position) ⌝ }
+{
+    match c.read_u16_le(s) {
+        ReadU16::Value(n, next) => read_body(s, next, n as usize, 512, 2),
+        ReadU16::Refused(stop) => ReadSpan::Refused(stop),
+    }
+}
+
+// The name and the resource.
+pub(crate) fn read_texts(s: &[u8], c: Cursor) -> ReadTexts
+    ensures { λ r. ⌜ textsPaper r ≡ textsAt (now (s .entry)) (c .position) ⌝ }
+{
+    match read_name(s, c) {
+        ReadSpan::Span {
+            start: a,
+            len: n,
+            next,
+        } => match read_resource(s, next) {
+            ReadSpan::Span {
+                start: b,
+                len: m,
+                next: end,
+            } => {
+                let texts = Texts {
+                    name_at: a,
+                    name_length: n,
+                    resource_at: b,
+                    resource_length: m,
+                };
+                ReadTexts::Value(texts, end)
+            }
+            ReadSpan::Refused(stop) => ReadTexts::Refused(stop),
+        },
+        ReadSpan::Refused(stop) => ReadTexts::Refused(stop),
+    }
+}
+
+// The bitmap, which has ten bits.
+fn read_bits(s: &[u8], c: Cursor) -> ReadU16
+    ensures { λ r. ⌜ u16Paper r ≡ then (fixedAt 2 (now (s .entry)) (c .position)) (upTo 1023 3) ⌝ }
+{
+    match c.read_u16_le(s) {
+        ReadU16::Value(b, next) => {
+            if 1023 < b {
+                ReadU16::Refused(Stop {
+                    refusal: Refusal::InvalidNameState { reason: 3 },
+                    position: next.position,
+                })
+            } else {
+                ReadU16::Value(b, next)
+            }
+        }
+        ReadU16::Refused(stop) => ReadU16::Refused(stop),
+    }
+}
+
+// Height, renewal and the bitmap.
+pub(crate) fn read_numbers(s: &[u8], c: Cursor) -> ReadNumbers
+    ensures { λ r. ⌜ numbersPaper r ≡ numbersAt (now (s .entry)) (c .position) ⌝ }
+{
+    match c.read_u32_le(s) {
+        ReadU32::Value(height, c1) => match c1.read_u32_le(s) {
+            ReadU32::Value(renewal, c2) => match read_bits(s, c2) {
+                ReadU16::Value(bits, end) => {
+                    let numbers = Numbers {
+                        height,
+                        renewal,
+                        bits,
+                    };
+                    ReadNumbers::Value(numbers, end)
+                }
+                ReadU16::Refused(stop) => ReadNumbers::Refused(stop),
+            },
+            ReadU32::Refused(stop) => ReadNumbers::Refused(stop),
+        },
+        ReadU32::Refused(stop) => ReadNumbers::Refused(stop),
+    }
+}
+
+// A compact size of 32 bits.
+fn read_u32_compact(s: &[u8], c: Cursor, reason: u8) -> ReadU32
+    ensures { λ r. ⌜ u32Paper r ≡ then (compactAt (now (s .entry)) (c .position)) (upTo 4294967295 reason) ⌝ }
+{
+    match c.read_compact_size(s) {
+        ReadU64::Value(v, next) => {
+            if 4294967295 < v {
+                return ReadU32::Refused(Stop {
+                    refusal: Refusal::InvalidNameState { reason },
+                    position: next.position,
+                });
+            }
+            ReadU32::Value(v as u32, next)
+        }
+        ReadU64::Refused(stop) => ReadU32::Refused(stop),
+    }
+}
+
+fn refused(stop: Stop) -> ReadOutpoint
+    ensures { λ r. ⌜ r .moved ≡ Moved.Refused stop ⌝ }
+{
+    ReadOutpoint {
+        moved: Moved::Refused(stop),
+        outpoint: Outpoint::NULL,
+    }
+}
+
+fn read_present_owner(s: &[u8], c: Cursor) -> ReadOutpoint
+    ensures { λ r. ⌜ ownerPaper r ≡ ownerAt (now (s .entry)) (c .position) ⌝ }
+{
+    let hash = c.read_array(s);
+    let moved = hash.moved;
+    match moved {
+        Moved::To(next) => {
+            let bytes = hash.bytes;
+            match read_u32_compact(s, next, 4) {
+                ReadU32::Value(index, end) => ReadOutpoint {
+                    moved: Moved::To(end),
+                    outpoint: Outpoint {
+                        transaction_hash: TransactionHash(bytes),
+                        index,
+                    },
+                },
+                ReadU32::Refused(stop) => refused(stop),
+            }
+        }
+        Moved::Refused(stop) => refused(stop),
+    }
+}
+
+// The owner where the bit is set, else the null outpoint.
+fn read_owner(s: &[u8], c: Cursor, set: bool) -> ReadOutpoint
+    ensures { λ r. ⌜ ownerPaper r ≡ present set (ownerAt (now (s .entry)) (c .position)) nullOutpoint (c .position) ⌝ }
+{
+    if !set {
+        return ReadOutpoint {
+            moved: Moved::To(c),
+            outpoint: Outpoint::NULL,
+        };
+    }
+    read_present_owner(s, c)
+}
+
+// An amount where the bit is set, else 0.
+fn read_amount(s: &[u8], c: Cursor, set: bool) -> ReadU64
+    ensures { λ r. ⌜ u64Paper r ≡ present set (amountAt (now (s .entry)) (c .position)) 0 (c .position) ⌝ }
+{
+    if !set {
+        return ReadU64::Value(0, c);
+    }
+    at_most(c.read_compact_size(s), 9007199254740991, 6)
+}
+
+// A height where the bit is set, else 0.
+fn read_time(s: &[u8], c: Cursor, set: bool) -> ReadU32
+    ensures { λ r. ⌜ u32Paper r ≡ present set (fixedAt 4 (now (s .entry)) (c .position)) 0 (c .position) ⌝ }
+{
+    if !set {
+        return ReadU32::Value(0, c);
+    }
+    c.read_u32_le(s)
+}
+
+// The number of renewals where the bit is set, else 0.
+fn read_renewals(s: &[u8], c: Cursor, set: bool) -> ReadU32
+    ensures { λ r. ⌜ u32Paper r ≡ present set (then (compactAt (now (s .entry)) (c .position)) (upTo 4294967295 5)) 0 (c .position) ⌝ }
+{
+    if !set {
+        return ReadU32::Value(0, c);
+    }
+    read_u32_compact(s, c, 5)
+}
+
+// Value and highest.
+fn read_amounts(s: &[u8], c: Cursor, bits: u16) -> ReadAmounts
+    ensures { λ r. ⌜ amountsPaper r ≡ amountsAt bits (now (s .entry)) (c .position) ⌝ }
+{
+    match read_amount(s, c, bits / 2 % 2 == 1) {
+        ReadU64::Value(value, c1) => match read_amount(s, c1, bits / 4 % 2 == 1) {
+            ReadU64::Value(highest, end) => {
+                let amounts = Amounts { value, highest };
+                ReadAmounts::Value(amounts, end)
+            }
+            ReadU64::Refused(stop) => ReadAmounts::Refused(stop),
+        },
+        ReadU64::Refused(stop) => ReadAmounts::Refused(stop),
+    }
+}
+
+// Owner, value and highest.
+pub(crate) fn read_held(s: &[u8], c: Cursor, bits: u16) -> ReadHeld
+    ensures { λ r. ⌜ heldPaper r ≡ heldAt bits (now (s .entry)) (c .position) ⌝ }
+{
+    let found = read_owner(s, c, bits / 1 % 2 == 1);
+    let owner = found.outpoint;
+    let moved = found.moved;
+    match moved {
+        Moved::To(next) => ReadHeld {
+            read: read_amounts(s, next, bits),
+            owner,
+        },
+        Moved::Refused(stop) => ReadHeld {
+            read: ReadAmounts::Refused(stop),
+            owner,
+        },
+    }
+}
+
+// Transfer, revoked, claimed and renewals.
+pub(crate) fn read_times(s: &[u8], c: Cursor, bits: u16) -> ReadTimes
+    ensures { λ r. ⌜ timesPaper r ≡ timesAt bits (now (s .entry)) (c .position) ⌝ }
+{
+    match read_time(s, c, bits / 8 % 2 == 1) {
+        ReadU32::Value(transfer, c1) => match read_time(s, c1, bits / 16 % 2 == 1) {
+            ReadU32::Value(revoked, c2) => match read_time(s, c2, bits / 32 % 2 == 1) {
+                ReadU32::Value(claimed, c3) => match read_renewals(s, c3, bits / 64 % 2 == 1) {
+                    ReadU32::Value(renewals, end) => {
+                        let times = Times {
+                            transfer,
+                            revoked,
+                            claimed,
+                            renewals,
+                        };
+                        ReadTimes::Value(times, end)
+                    }
+                    ReadU32::Refused(stop) => ReadTimes::Refused(stop),
+                },
+                ReadU32::Refused(stop) => ReadTimes::Refused(stop),
+            },
+            ReadU32::Refused(stop) => ReadTimes::Refused(stop),
+        },
+        ReadU32::Refused(stop) => ReadTimes::Refused(stop),
+    }
+}

@@ -1,0 +1,4 @@
+pub mod Letters
+pub mod Hash
+pub mod Same
+pub mod One

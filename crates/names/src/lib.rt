@@ -1,0 +1,129 @@
+// The name rule, the name hash and the blind commitment (document 01, module 5).
+use primitives::Dollarydoos;
+use primitives::NameHash;
+use words::same::same_bytes;
+ghost use mathlib.Core.Path.{_≡_};
+ghost use mathlib.Core.Bool.{true, false, _&&_, _||_};
+ghost use Rattle.names.specs.Blind.{blindOf};
+ghost use Rattle.names.specs.Name.{plain, mark, letters, reserved, validName, nameHash};
+ghost use Rattle.names.specs.Paper.{hashedPaper, shownHash};
+
+pub const MAX_NAME_SIZE: usize = 63;
+
+// "0-9, a-z".
+fn is_plain(b: u8) -> bool
+    ensures { λ r. ⌜ r ≡ plain b ⌝ }
+{
+    if b < 48 {
+        return false;
+    }
+    if b <= 57 {
+        return true;
+    }
+    if b < 97 {
+        return false;
+    }
+    b <= 122
+}
+
+// "`-` and `_`".
+fn is_mark(b: u8) -> bool
+    ensures { λ r. ⌜ r ≡ mark b ⌝ }
+{
+    if b == 45 {
+        return true;
+    }
+    b == 95
+}
+
+// One of the bytes that a name may have.
+fn is_letter(b: u8) -> bool
+    ensures { λ r. ⌜ r ≡ (plain b || mark b) ⌝ }
+{
+    if is_plain(b) {
+        return true;
+    }
+    is_mark(b)
+}
+
+fn all_letters(name: &[u8]) -> bool
+    ensures { λ r. ⌜ r ≡ letters (now (name .entry)) ⌝ }
+{
+    let mut i: usize = 0;
+    while i < name.len() {
+        if !is_letter(name[i]) {
+            return false;
+        }
+        i += 1;
+    }
+    true
+}
+
+// "not example, invalid, local, localhost, test".
+fn is_reserved(name: &[u8]) -> bool
+    ensures { λ r. ⌜ r ≡ reserved (now (name .entry)) ⌝ }
+{
+    if same_bytes(name, b"example") {
+        return true;
+    }
+    if same_bytes(name, b"invalid") {
+        return true;
+    }
+    if same_bytes(name, b"local") {
+        return true;
+    }
+    if same_bytes(name, b"localhost") {
+        return true;
+    }
+    same_bytes(name, b"test")
+}
+
+pub fn validate_name(name: &[u8]) -> bool
+    ensures { λ r. ⌜ r ≡ validName (now (name .entry)) ⌝ }
+{
+    let n = name.len();
+    if n < 1 {
+        return false;
+    }
+    if MAX_NAME_SIZE < n {
+        return false;
+    }
+    if is_reserved(name) {
+        return false;
+    }
+    if !all_letters(name) {
+        return false;
+    }
+    if is_mark(name[0]) {
+        return false;
+    }
+    !is_mark(name[n - 1])
+}
+
+// A name's hash; where the bytes are no name, which the Rust refuses by `InvalidName`, zeros.
+pub struct Hashed {
+    pub valid: bool,
+    pub hash: NameHash,
+}
+
+pub fn hash_name(name: &[u8]) -> Hashed
+    ensures { λ r. ⌜ hashedPaper r ≡ shownHash (nameHash (now (name .entry))) ⌝ }
+{
+    if !validate_name(name) {
+        return Hashed {
+            valid: false,
+            hash: NameHash([0u8; 32]),
+        };
+    }
+    Hashed {
+        valid: true,
+        hash: NameHash(sha3::sha3_256(name)),
+    }
+}
+
+// The commitment of a bid: what a reveal's value and nonce must give again.
+pub fn blind_bid(value: Dollarydoos, nonce: &[u8; 32]) -> [u8; 32]
+    ensures { λ r. ⌜ r ≡ blindOf (value .0) (now (nonce .entry)) ⌝ }
+{
+    blake2b::blake2b_256_value_nonce(value.0, nonce)
+}
