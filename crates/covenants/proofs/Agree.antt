@@ -1,5 +1,5 @@
 -- The item of an accepted covenant: found by a scan of its bytes, and held in its directory.
-use mathlib.Core.Path.{_≡_, refl, sym, _∙_}
+use mathlib.Core.Path.{_≡_, refl, ap, sym, _∙_}
 use Prim.Native.Nat.{ℕ, zero, suc, _+_, _^_, _≤_, _<_, min}
 use native.Mathlib.Omega.{arith}
 use mathlib.Core.List.{List, [], _∷_}
@@ -90,3 +90,15 @@ directory-holds limit s at index {r} big e =
     by-order index (length (r .items))
     (λ h. directory-entry s (r .items) index h few (entry (min limit 1000009) at s (omega arith) index (length (r .items)) (a .first) h (a .items)))
     (λ h. directory-none s (r .items) index h)
+
+-- an item of an accepted covenant lies within the bytes
+pub nth-inside : (s : List ℕ) (at k : ℕ) {r : Reading} {end : ℕ} {part : ℕ × ℕ} → length s < 2 ^ 64 → covenantAt 1000009 s at ≡ ok r end → nth (r .items) k ≡ there part → part .0 + part .1 ≤ length s
+nth-inside s at k {r} {end} {part} big e f =
+    let a = covenant-accepted 1000009 s at e in
+    by-order k (length (r .items))
+    (λ h.
+    let x = entry 1000009 at s big k (length (r .items)) (a .first) h (a .items) in
+    let same : there (x .part) ≡ there part = sym (x .is) ∙ f in
+    let p : x .part ≡ part = cc in
+    omega (arith, x .fits, ap (λ (q : ℕ × ℕ). q .0) p, ap (λ (q : ℕ × ℕ). q .1) p))
+    (λ h. let g = nth-none (r .items) k h in absurd (let z : _≡_ {A = ℕ} 0 1 = cc in omega arith))

@@ -1,8 +1,9 @@
 -- Reads of the same kind, one after the other: a loop that only passes them, and a loop that walks a list that was read.
-use mathlib.Core.Path.{_≡_, refl, ap, sym, _∙_}
+use mathlib.Core.Path.{_≡_, refl, ap, sym, subst, _∙_}
 use Prim.Native.Nat.{ℕ, zero, suc, _+_, _-_, _≤_, _<_}
 use native.Mathlib.Omega.{arith}
-use mathlib.Core.List.{List, [], _∷_}
+use mathlib.Core.Logic.{⊎-elim}
+use mathlib.Core.List.{List, [], _∷_, _++_, List·Memᴰ, List·Memᴰ·not-nil, List·Memᴰ·cases-cons}
 use lib.ListN.{length}
 use Rattle.refusal.specs.Outcome.{Outcome, ok, err, then, manyAt, past}
 use Rattle.refusal.proofs.Outcomes.{then-ok}
@@ -73,3 +74,47 @@ module _ {A : Type 0} (read : ℕ → Outcome A) where
     ended h =
         let k : n - i ≡ 0 = omega (arith, r .bound) in
         sym (rw k at (r .rest))
+
+module _ {A : Type 0} (read : ℕ → Outcome A) where
+  -- the k-th of a list that was read: what was read before it, and its own read
+  pub record Member (k from : ℕ) (xs : List A) : Type 0 where
+    pub front : List A
+    pub item : A
+    pub back : List A
+    pub start : ℕ
+    pub next : ℕ
+    pub split : xs ≡ front ++ (item ∷ back)
+    pub before : manyAt read k from ≡ ok front start
+    pub here : read start ≡ ok item next
+
+  pub many-member : (k n from : ℕ) {xs : List A} {end : ℕ} → k < n → manyAt read n from ≡ ok xs end → Member k from xs
+  unfolding manyAt
+  many-member k zero from h e = absurd (omega arith)
+  many-member zero (suc n) from h e =
+      let w = many-next read {n = n} {n′ = suc n} refl e in
+      record { front = []; item = w .first; back = w .others; start = from; next = w .next; split = w .split; before = refl; here = w .here }
+  many-member (suc k) (suc n) from h e =
+      let w = many-next read {n = n} {n′ = suc n} refl e in
+      let m = many-member k n (w .next) (omega arith) (w .rest) in
+      record {
+        front = w .first ∷ m .front;
+        item = m .item;
+        back = m .back;
+        start = m .start;
+        next = m .next;
+        split = w .split ∙ ap (λ l. w .first ∷ l) (m .split);
+        before = rw (w .here, m .before);
+        here = m .here;
+      }
+
+  -- each of a list that was read was read somewhere
+  pub many-somewhere : (n from : ℕ) {xs : List A} {end : ℕ} → manyAt read n from ≡ ok xs end → {x : A} → List·Memᴰ x xs → (at : ℕ) × (next : ℕ) × (read at ≡ ok x next)
+  many-somewhere zero from {xs} e {x} m =
+      let none = many-none read from refl e in
+      absurd (List·Memᴰ·not-nil (subst (λ l. List·Memᴰ x l) none m))
+  many-somewhere (suc n) from {xs} e {x} m =
+      let w = many-next read {n = n} {n′ = suc n} refl e in
+      ⊎-elim
+      (λ (h : x ≡ w .first). (from, w .next, w .here ∙ ap (λ y. ok y (w .next)) (sym h)))
+      (λ (h : List·Memᴰ x (w .others)). many-somewhere n (w .next) (w .rest) h)
+      (List·Memᴰ·cases-cons (subst (λ l. List·Memᴰ x l) (w .split) m))

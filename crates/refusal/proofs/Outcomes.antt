@@ -66,6 +66,26 @@ ok-to {A} {a} {b} {p} {q} P e h =
     let y : p ≡ q = cc in
     rw (← x, ← y) h
 
+-- a read whose value is only changed ends where it ends
+pub past-then : {A B : Type 0} (o : Outcome A) (f : A → B) → past (then o (λ a p. ok (f a) p)) ≡ past o
+past-then (ok a p) f = refl
+past-then (err k vs p) f = refl
+
+-- two reads, both of whose values are kept, end where the second ends
+module _ {A B C : Type 0} (o : Outcome A) (f : ℕ → Outcome B) (both : A → B → C) where
+  abbrev pub Both : Outcome C
+  Both = then o (λ a p. then (f p) (λ b q. ok (both a b) q))
+
+  pub past-next : {p : ℕ} → past o ≡ ok tt p → past Both ≡ past (f p)
+  past-next {p} = go o
+    where
+      go : (o : Outcome A) → past o ≡ ok tt p → past (then o (λ a p. then (f p) (λ b q. ok (both a b) q))) ≡ past (f p)
+      go (ok a q) e = let h : q ≡ p = cc in rw h (past-then (f p) (both a))
+      go (err k vs q) e = absurd (never e refl)
+
+  pub past-cut : {k : ℕ} {vs : List ℕ} {p : ℕ} → past o ≡ err k vs p → past Both ≡ err k vs p
+  past-cut e = ap past (then-err o (λ a p. then (f p) (λ b q. ok (both a b) q)) e)
+
 -- ---- writes
 
 -- a write is not both done and refused

@@ -1,0 +1,6 @@
+pub mod Spelling
+pub mod Reading
+pub mod Whole
+pub mod Viewing
+pub mod Same
+pub mod One

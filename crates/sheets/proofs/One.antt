@@ -1,0 +1,41 @@
+-- Two results that meet a contract coincide, for each public function.
+use mathlib.Core.Path.{_≡_}
+use Prim.Native.Nat.{ℕ}
+use mathlib.Core.Bool.{Bool}
+use mathlib.Core.List.{List}
+use denote.Ref.{RefT}
+use Rattle.words.proofs.One.{one, one-each}
+use Rattle.primitives.specs.Outpoints.{outpointPaper, shownOutpoint}
+use Rattle.primitives.specs.declared.ReadOutpoint.{ReadOutpoint}
+use Rattle.primitives.proofs.One.{outpoint-same}
+use Rattle.sheets.specs.Sheet.{inputAt, placeAt, transactionCounts, coinCounts}
+use Rattle.sheets.specs.Viewer.{viewOf, viewBytes, viewPlace, exists}
+use Rattle.sheets.specs.Paper.{placePaper, sheetPaper}
+use Rattle.sheets.specs.declared.ReadPlace.{ReadPlace}
+use Rattle.sheets.specs.declared.SheetRead.{SheetRead}
+use Rattle.sheets.proofs.Same.{place-same, sheet-same}
+
+pub input-at-one : (s : List ℕ) (at : ℕ) {r r′ : ReadOutpoint} → outpointPaper r ≡ shownOutpoint (inputAt s at) → outpointPaper r′ ≡ shownOutpoint (inputAt s at) → r ≡ r′
+input-at-one s at e f = outpoint-same (one e f)
+
+pub place-at-one : (s : List ℕ) (at side : ℕ) {r r′ : ReadPlace} → placePaper r ≡ placeAt side s at → placePaper r′ ≡ placeAt side s at → r ≡ r′
+place-at-one s at side e f = place-same (one e f)
+
+pub judge-transaction-one : (s : List ℕ) {r r′ : SheetRead} → sheetPaper r ≡ transactionCounts s → sheetPaper r′ ≡ transactionCounts s → r ≡ r′
+judge-transaction-one s e f = sheet-same (one e f)
+
+pub judge-coins-one : (s : List ℕ) {r r′ : SheetRead} → sheetPaper r ≡ coinCounts s → sheetPaper r′ ≡ coinCounts s → r ≡ r′
+judge-coins-one s e f = sheet-same (one e f)
+
+-- a lent slice is its bytes and where they lie; what else its record has, a ghost name, is no part of the value that is handed back
+module _ (tx coins : RefT (List ℕ)) (side index item : ℕ) where
+  abbrev Says : RefT (List ℕ) → Type 0
+  Says r =
+      (r .now ≡ viewBytes (tx .now) (coins .now) (viewOf (tx .now) (coins .now) side index item))
+      × (r .ptr ≡ viewPlace (tx .ptr) (coins .ptr) (viewOf (tx .now) (coins .now) side index item))
+
+  pub item-one : (r r′ : RefT (List ℕ)) → Says r → Says r′ → (r .now ≡ r′ .now) × (r .ptr ≡ r′ .ptr)
+  item-one r r′ = one-each
+
+pub has-item-one : (tx coins : List ℕ) (side index item : ℕ) {r r′ : Bool} → r ≡ exists (viewOf tx coins side index item) → r′ ≡ exists (viewOf tx coins side index item) → r ≡ r′
+has-item-one tx coins side index item = one

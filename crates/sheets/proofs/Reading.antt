@@ -1,0 +1,150 @@
+-- What reading the parts of a sheet comes to, and what a part that was read tells.
+use mathlib.Core.Path.{_≡_, refl, ap, ap₂, sym, _∙_}
+use Prim.Native.Nat.{ℕ, _+_, _/_, _%_, _^_, _≤_, _<_}
+use native.Mathlib.Omega.{arith}
+use mathlib.Core.List.{List, List·Memᴰ}
+use mathlib.Core.Bool.{Bool, true, false}
+use lib.ListN.{length, take, drop, getD}
+use lib.Dec.{eqb}
+use Rattle.refusal.proofs.Many.{many-somewhere}
+use Rattle.refusal.specs.Outcome.{Outcome, ok, err, past, manyAt}
+use Rattle.refusal.proofs.Outcomes.{then-ok, never, past-next, past-cut}
+use Rattle.encoding.specs.Wire.{sliceAt, bytesAt}
+use Rattle.encoding.specs.Paper.{arrayPaper, shown}
+use Rattle.encoding.specs.declared.read.ReadArray.{ReadArray}
+use Rattle.encoding.proofs.Slice as slice
+use Rattle.covenants.specs.Covenant.{Reading, Said, covenantAt, skimmed, bytesIn}
+use Rattle.covenants.proofs.Moves.{covenant-moves}
+use Rattle.primitives.specs.declared.Outpoint.{Outpoint}
+use Rattle.sheets.specs.Sheet.{be, field, inputAt, bodyAt, placeAt, coinAt}
+use Rattle.sheets.specs.declared.Place.{Place}
+
+-- bytes that are there, as an array hands them out
+pub array-inside : (n : ℕ) (s : List ℕ) (at : ℕ) (r : ReadArray) → at + n ≤ length s → at + n < 2 ^ 64 → arrayPaper r ≡ shown n (bytesAt n s at) → r .bytes ≡ take n (drop at s)
+unfolding bytesAt
+array-inside n s at r h big e = let w = slice.within n s at big h in ap (λ (t : Outcome Unit × List ℕ). t .1) (rw w at e)
+
+-- a hash, and what is said of the covenant behind it
+module _ (value version size : ℕ) (s : List ℕ) (at : ℕ) {part : ℕ × ℕ} {covenant : ℕ} (hash : sliceAt size s at ≡ ok part covenant) where
+  placed : (o : Outcome Reading) {said : Said} {end : ℕ} → covenantAt 1000009 s covenant ≡ o → skimmed o ≡ ok said end
+      → bodyAt value version size s at ≡ ok (record { value = record { 0 = value }; version = version; start = part .0; size = part .1; covenant = covenant; kind = said .0 }) end
+  unfolding bodyAt
+  placed (ok c p) {said} {end} e f =
+      let q : p ≡ end = cc in
+      let same : _≡_ {A = Said} (c .kind, length (c .items), c .used) said = cc in
+      let kind : c .kind ≡ said .0 = ap (λ (x : Said). x .0) same in
+      rw (hash, e, q, kind)
+  placed (err k vs p) e f = absurd (never f refl)
+
+  pub body-placed : {said : Said} {end : ℕ} → skimmed (covenantAt 1000009 s covenant) ≡ ok said end
+      → bodyAt value version size s at ≡ ok (record { value = record { 0 = value }; version = version; start = part .0; size = part .1; covenant = covenant; kind = said .0 }) end
+  body-placed f = placed (covenantAt 1000009 s covenant) refl f
+
+  stopped : (o : Outcome Reading) {k : ℕ} {vs : List ℕ} {p : ℕ} → covenantAt 1000009 s covenant ≡ o → skimmed o ≡ err k vs p → bodyAt value version size s at ≡ err k vs p
+  unfolding bodyAt
+  stopped (ok c q) e f = absurd (never refl f)
+  stopped (err k′ vs′ q) e f = rw (hash, e) (cc)
+
+  pub body-stopped : {k : ℕ} {vs : List ℕ} {p : ℕ} → skimmed (covenantAt 1000009 s covenant) ≡ err k vs p → bodyAt value version size s at ≡ err k vs p
+  body-stopped f = stopped (covenantAt 1000009 s covenant) refl f
+
+-- a coin, from its outpoint and its output
+module _ (s : List ℕ) (at : ℕ) where
+  pub coin-next : {next : ℕ} → past (inputAt s at) ≡ ok tt next → past (coinAt s at) ≡ past (placeAt 1 s next)
+  unfolding coinAt
+  coin-next e = past-next (inputAt s at) (placeAt 1 s) (λ outpoint place. (outpoint, place)) e
+
+  pub coin-cut : {k : ℕ} {vs : List ℕ} {p : ℕ} → past (inputAt s at) ≡ err k vs p → past (coinAt s at) ≡ err k vs p
+  unfolding coinAt
+  coin-cut e = past-cut (inputAt s at) (placeAt 1 s) (λ outpoint place. (outpoint, place)) e
+
+-- ---- what was read
+
+-- a fixed field that was right
+pub field-right : {A : Type 0} (t : Bool) (side offset : ℕ) (o : Outcome A) {a : A} {p : ℕ} → field t side offset o ≡ ok a p → (t ≡ true) × (o ≡ ok a p)
+field-right true side offset o e = (refl, e)
+field-right false side offset o e = absurd (never e refl)
+
+-- an output that was read: its hash lies within, and its covenant can be read
+pub record Placed (s : List ℕ) (at : ℕ) (p : Place) (next : ℕ) : Type 0 where
+  pub fits : p .start + p .size ≤ length s
+  pub reading : Reading
+  pub covenant : covenantAt 1000009 s (p .covenant) ≡ ok reading next
+  pub kind : p .kind ≡ reading .kind
+  pub later : at < next
+  pub ends : next ≤ length s
+
+module _ (s : List ℕ) (big : length s < 2 ^ 64) where
+  pub body-read : (value version size at : ℕ) {p : Place} {next : ℕ} → bodyAt value version size s at ≡ ok p next → Placed s at p next
+  unfolding bodyAt
+  body-read value version size at {p} {next} e =
+      let hash = then-ok (sliceAt size s at) e in
+      let part = slice.read size s at big (hash .2) in
+      let c = then-ok (covenantAt 1000009 s (hash .1)) (hash .3) in
+      let moves = covenant-moves 1000009 s (hash .1) big (c .2) in
+      let told = c .3 in
+      let same : record { value = record { 0 = value }; version = version; start = hash .0 .0; size = hash .0 .1; covenant = hash .1; kind = c .0 .kind } ≡ p = cc in
+      let end : c .1 ≡ next = cc in
+      let start : hash .0 .0 ≡ p .start = ap (λ (q : Place). q .start) same in
+      let long : hash .0 .1 ≡ p .size = ap (λ (q : Place). q .size) same in
+      let stands : hash .1 ≡ p .covenant = ap (λ (q : Place). q .covenant) same in
+      record {
+        fits = omega (arith, part .start, part .size, part .fits);
+        reading = c .0;
+        covenant = ap (covenantAt 1000009 s) (sym stands) ∙ c .2 ∙ ap (ok (c .0)) end;
+        kind = sym (ap (λ (q : Place). q .kind) same);
+        later = omega (arith, part .ends, moves .0);
+        ends = omega (arith, moves .1);
+      }
+
+  pub place-read : (side at : ℕ) {p : Place} {next : ℕ} → placeAt side s at ≡ ok p next → Placed s at p next
+  unfolding placeAt
+  place-read side at {p} {next} e =
+      let fields = then-ok (sliceAt 10 s at) e in
+      let part = slice.read 10 s at big (fields .2) in
+      let spare = field-right (eqb (getD s (at + 9) 0 / 64) 0) side (at + 9) (bodyAt (be (bytesIn s (at, 8))) (getD s (at + 8) 0) (getD s (at + 9) 0 % 64) s (fields .1)) (fields .3) in
+      let b = body-read (be (bytesIn s (at, 8))) (getD s (at + 8) 0) (getD s (at + 9) 0 % 64) (fields .1) (spare .1) in
+      record { fits = b .fits; reading = b .reading; covenant = b .covenant; kind = b .kind; later = omega (arith, part .ends, b .later); ends = b .ends }
+
+  -- and so was each of a list
+  pub places-read : (side n from : ℕ) {ps : List Place} {end : ℕ} → manyAt (placeAt side s) n from ≡ ok ps end → {p : Place} → List·Memᴰ p ps → (at : ℕ) × (next : ℕ) × Placed s at p next
+  places-read side n from e m =
+      let w = many-somewhere (placeAt side s) n from e m in
+      (w .0, w .1, place-read side (w .0) (w .2))
+
+-- a coin that was read: its outpoint, and its output behind it
+pub record CoinRead (s : List ℕ) (at : ℕ) (c : Outpoint × Place) (next : ℕ) : Type 0 where
+  pub middle : ℕ
+  pub outpoint : inputAt s at ≡ ok (c .0) middle
+  pub output : placeAt 1 s middle ≡ ok (c .1) next
+
+pub coin-read : (s : List ℕ) (at : ℕ) {c : Outpoint × Place} {next : ℕ} → coinAt s at ≡ ok c next → CoinRead s at c next
+unfolding coinAt
+coin-read s at {c} {next} e =
+    let a = then-ok (inputAt s at) e in
+    let b = then-ok (placeAt 1 s (a .1)) (a .3) in
+    let told = b .3 in
+    let pair : _≡_ {A = Outpoint × Place} (a .0, b .0) c = cc in
+    let end : b .1 ≡ next = cc in
+    record {
+      middle = a .1;
+      outpoint = a .2 ∙ ap (λ x. ok x (a .1)) (ap (λ (x : Outpoint × Place). x .0) pair);
+      output = b .2 ∙ ap₂ ok (ap (λ (x : Outpoint × Place). x .1) pair) end;
+    }
+
+-- an outpoint that was read takes its 36 bytes
+pub input-moves : (s : List ℕ) (at : ℕ) {o : Outpoint} {next : ℕ} → length s < 2 ^ 64 → inputAt s at ≡ ok o next → (next ≡ at + 36) × (next ≤ length s)
+unfolding inputAt
+input-moves s at {o} {next} big e =
+    let w = then-ok (sliceAt 36 s at) e in
+    let part = slice.read 36 s at big (w .2) in
+    let told = w .3 in
+    let end : w .1 ≡ next = cc in
+    (omega (arith, part .ends), omega (arith, part .ends, part .fits))
+
+pub coins-read : (s : List ℕ) (n from : ℕ) {cs : List (Outpoint × Place)} {end : ℕ} → length s < 2 ^ 64 → manyAt (coinAt s) n from ≡ ok cs end → {c : Outpoint × Place} → List·Memᴰ c cs
+    → (at : ℕ) × (next : ℕ) × Placed s at (c .1) next
+coins-read s n from big e m =
+    let w = many-somewhere (coinAt s) n from e m in
+    let c = coin-read s (w .0) (w .2) in
+    (c .middle, w .1, place-read s big 1 (c .middle) (c .output))

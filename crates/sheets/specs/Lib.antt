@@ -1,0 +1,4 @@
+pub mod Sheet
+pub mod Viewer
+pub mod Walk
+pub mod Paper
