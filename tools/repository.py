@@ -115,8 +115,8 @@ def closing_brace(code, opening):
     return None
 
 
-def clauses_from(code, place):
-    """The kinds of the clauses between a function's name, which ends at `place`, and its body; None without a body."""
+def header_from(code, place):
+    """The kinds of the clauses between a function's name, which ends at `place`, and its body, and where the body's brace is; None without a body."""
     kinds, pending, depth = set(), None, 0
     token = HEADER_TOKEN.search(code, place)
     while token:
@@ -133,9 +133,17 @@ def clauses_from(code, place):
             if place is None:
                 return None
         elif depth == 0 and text in "{;":
-            return frozenset(kinds)
+            return frozenset(kinds), token.start()
         token = HEADER_TOKEN.search(code, place)
     return None
+
+
+def bodies_of(code):
+    """The functions' bodies in a Rattle file, from its code without comments: of each the name and the places of its braces."""
+    for match in FUNCTION.finditer(code):
+        header = header_from(code, match.end())
+        if header and code[header[1]] == "{":
+            yield match["name"], header[1], closing_brace(code, header[1]) or len(code)
 
 
 def functions_of(code):
@@ -149,8 +157,8 @@ def functions_of(code):
         modules = tuple(name for kind, name in around if kind == "mod")
         owner = "".join(name for kind, name in around if kind == "impl")
         line = line_at(code, match.start("name"))
-        clauses = clauses_from(code, match.end())
-        functions.append(Function(match["name"], modules, owner, line, bool(match["public"]), clauses))
+        header = header_from(code, match.end())
+        functions.append(Function(match["name"], modules, owner, line, bool(match["public"]), header and header[0]))
     return functions
 
 

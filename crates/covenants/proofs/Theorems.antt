@@ -5,15 +5,14 @@ use native.Mathlib.Omega.{arith}
 use mathlib.Core.List.{List, [], _∷_, _++_, append-assoc, append-nil}
 use lib.ListN.{length, take, drop, length-append, take-append-drop}
 use lib.Seq.{take-at, take-append-seam, take-append-le, drop-append-seam}
-use Rattle.words.specs.Words.{le, Bytes}
+use Rattle.words.specs.Words.{Bytes}
 use Rattle.words.proofs.Cases.{by-order}
-use Rattle.refusal.specs.Outcome.{ok, manyAt}
-use Rattle.encoding.specs.Wire.{remainingAt, inside, sliceAt, bytesAt, fixedAt, canonical, compactAt, most, compactMost, finishAt}
+use Rattle.refusal.specs.Outcome.{ok}
 use Rattle.encoding.specs.Theorems.{Lent}
 use Rattle.encoding.proofs.Back.{Stands, stands-here, stands-next}
-use Rattle.covenants.specs.Covenant.{Reading, allowed, itemAt, headAt, opening, bodyAt, covenantAt, wholeCovenant, contents}
+use Rattle.covenants.specs.Covenant.{Reading, covenantAt, contents}
 use Rattle.covenants.specs.Written.{covenantBytes, covenantSize}
-use Rattle.covenants.specs.Theorems.{Meant, written, Writable, runBytes, CovenantReadsBack, AcceptedIsWritten, UsedIsSize, SizeIsLength, RunHasOneReading, FindFindsItem, DirectoryHoldsItem, StepsAreTheRun, Samples}
+use Rattle.covenants.specs.Theorems.{Meant, written, Writable, runBytes, CovenantReadsBack, AcceptedIsWritten, UsedIsSize, SizeIsLength, RunHasOneReading, FindFindsItem, DirectoryHoldsItem, StepsAreTheRun}
 use Rattle.covenants.proofs.Moves.{covenant-accepted, covenant-moves}
 use Rattle.covenants.proofs.Checks.{covenant-long}
 use Rattle.covenants.proofs.Back.{Again, covenant-back}
@@ -113,7 +112,3 @@ steps-are-the-run n limit s at = record {
   ends = run-last n limit s at;
   goes = λ e. let w = run-more n limit s at e in (w .first, w .says, w .run);
 }
-
-pub samples : Samples
-unfolding le remainingAt inside sliceAt bytesAt fixedAt canonical compactAt most compactMost finishAt allowed itemAt headAt opening bodyAt manyAt covenantAt wholeCovenant
-samples = record { accepted = refl; trailing = refl; no-count = refl; cut-item = refl; many = refl; small-allowance = refl }

@@ -4,9 +4,9 @@ use Prim.Native.Nat.{ℕ, suc, _+_, _-_, _≤_, _<_}
 use mathlib.Core.List.{List, [], _∷_, _++_}
 use lib.ListN.{length, take, drop}
 use Rattle.words.specs.Words.{Bytes}
-use Rattle.refusal.specs.Outcome.{ok, err}
+use Rattle.refusal.specs.Outcome.{ok}
 use Rattle.encoding.specs.Theorems.{Lent}
-use Rattle.covenants.specs.Covenant.{Reading, covenantAt, wholeCovenant, Said, contents}
+use Rattle.covenants.specs.Covenant.{Reading, covenantAt, Said, contents}
 use Rattle.covenants.specs.Written.{covenantBytes, covenantSize}
 use Rattle.covenants.specs.Items.{directoryItem, nth, seekAt}
 use Rattle.covenants.specs.Run.{End, runAt, covenant, last, stepAt}
@@ -94,12 +94,3 @@ pub record StepIsFirst (n limit : ℕ) (s : List ℕ) (at : ℕ) : Type 0 where
 
 abbrev pub StepsAreTheRun : Type 0
 StepsAreTheRun = (n limit : ℕ) (s : List ℕ) (at : ℕ) → StepIsFirst n limit s at
-
--- document 01's sample table: the P lines on covenants
-pub record Samples : Type 0 where
-  pub accepted : wholeCovenant (0x00 ∷ 0x00 ∷ []) ≡ ok (record { kind = 0; items = []; used = 2 }) 2
-  pub trailing : wholeCovenant (0x00 ∷ 0x00 ∷ 0x00 ∷ []) ≡ err 3 (1 ∷ []) 2
-  pub no-count : wholeCovenant (0x03 ∷ []) ≡ err 1 (1 ∷ 1 ∷ []) 1
-  pub cut-item : wholeCovenant (0x03 ∷ 0x01 ∷ 0x02 ∷ 0xaa ∷ []) ≡ err 1 (3 ∷ 1 ∷ []) 3
-  pub many : wholeCovenant (0x00 ∷ 0xfd ∷ 0xe9 ∷ 0x03 ∷ []) ≡ err 2 (1001 ∷ 1000 ∷ []) 4
-  pub small-allowance : covenantAt 2 (0x00 ∷ 0xfd ∷ 0xe8 ∷ 0x03 ∷ []) 0 ≡ err 5 (4 ∷ 2 ∷ []) 4

@@ -1,14 +1,13 @@
 -- The theorems of specs/Theorems.antt.
-use mathlib.Core.Path.{_≡_, refl, ap, sym, _∙_}
-use Prim.Native.Nat.{ℕ, _+_, _^_, _≤_, _<_}
+use mathlib.Core.Path.{refl, ap, sym, _∙_}
+use Prim.Native.Nat.{ℕ, _+_, _≤_}
 use native.Mathlib.Omega.{arith}
-use mathlib.Core.List.{List, [], _∷_, _++_, append-nil}
-use lib.ListN.{length, drop, length-append}
-use Rattle.words.specs.Words.{le, bytes}
+use mathlib.Core.List.{List, [], _++_, append-nil}
+use lib.ListN.{length, length-append}
+use Rattle.words.specs.Words.{bytes}
 use Rattle.words.proofs.Le.{length-bytes}
-use Rattle.refusal.specs.Outcome.{ok}
-use Rattle.encoding.specs.Wire.{remainingAt, inside, sliceAt, bytesAt, fixedAt, canonical, compactAt, compact, compactSize, varbytes}
-use Rattle.encoding.specs.Theorems.{Lent, FixedReadsBack, BytesReadBack, CompactReadsBack, VarbytesReadBack, CompactBegins, Samples}
+use Rattle.encoding.specs.Wire.{compact, compactSize, varbytes}
+use Rattle.encoding.specs.Theorems.{FixedReadsBack, BytesReadBack, CompactReadsBack, VarbytesReadBack, CompactBegins}
 use Rattle.encoding.proofs.Compact.{length-compact, compact-size-most}
 use Rattle.encoding.proofs.Back.{Stands, stands-here, stands-next, stands-both, fixed-back, bytes-back, compact-back, varbytes-back}
 
@@ -58,7 +57,3 @@ compact-begins v w rest hv hw e =
     let b = compact-back (compact w) w 0 [] hw (omega arith) sw in
     let c = sym a ∙ b in
     cc
-
-pub samples : Samples
-unfolding le bytes remainingAt inside sliceAt bytesAt fixedAt canonical compact compactAt
-samples = record { one-byte = refl; three-bytes = refl; too-long = refl }

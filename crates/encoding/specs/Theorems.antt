@@ -1,10 +1,10 @@
 -- What is put reads back, and a compact size has one reading. The statements; their proofs are in proofs/Theorems.antt.
 use mathlib.Core.Path.{_≡_}
 use Prim.Native.Nat.{ℕ, _+_, _^_, _≤_, _<_}
-use mathlib.Core.List.{List, [], _∷_, _++_}
-use lib.ListN.{length, take, drop}
+use mathlib.Core.List.{List, _++_}
+use lib.ListN.{length, drop}
 use Rattle.words.specs.Words.{bytes}
-use Rattle.refusal.specs.Outcome.{ok, err}
+use Rattle.refusal.specs.Outcome.{ok}
 use Rattle.encoding.specs.Wire.{fixedAt, bytesAt, compactAt, compact, compactSize, varbytesAt, varbytes}
 
 -- lent bytes are fewer than 2^63; what follows is said of fewer than 2^64 - 9
@@ -39,9 +39,3 @@ VarbytesReadBack =
 -- a compact size that begins another is it
 abbrev pub CompactBegins : Type 0
 CompactBegins = (v w : ℕ) (rest : List ℕ) → v < 2 ^ 64 → w < 2 ^ 64 → compact v ++ rest ≡ compact w → v ≡ w
-
--- document 01's sample table, its first P line: "252 is `fc`; 253 is `fd fd 00`; `fd fc 00` is 4"
-pub record Samples : Type 0 where
-  pub one-byte : compact 252 ≡ 0xfc ∷ []
-  pub three-bytes : compact 253 ≡ 0xfd ∷ 0xfd ∷ 0x00 ∷ []
-  pub too-long : compactAt (0xfd ∷ 0xfc ∷ 0x00 ∷ []) 0 ≡ err 4 (16 ∷ []) 3

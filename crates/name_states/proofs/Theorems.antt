@@ -8,20 +8,19 @@ use lib.ListN.{length}
 use lib.Dec.{ltb, eqb}
 use borrow.Author.Tests.{le-ltb, eq-eqb, eqb-true, ltb-false}
 use Rattle.words.proofs.Le.{part-long}
-use Rattle.words.specs.Words.{le, bytes}
 use Rattle.words.specs.Buffers.{pick}
 use Rattle.words.specs.Sameness.{same}
 use Rattle.words.proofs.Sameness.{same-refl, same-true}
 use Rattle.refusal.specs.Outcome.{Outcome, ok, err, wrote}
 use Rattle.refusal.proofs.Outcomes.{then-ok, passed, ok-to, kept}
-use Rattle.encoding.specs.Wire.{finishAt, inside, remainingAt, sliceAt, bytesAt, fixedAt, canonical, compact, compactAt}
-use Rattle.primitives.specs.Outpoints.{isNull, sameOutpoint, nullOutpoint}
+use Rattle.encoding.specs.Wire.{finishAt, inside, remainingAt, compactAt}
+use Rattle.primitives.specs.Outpoints.{nullOutpoint}
 use Rattle.names.specs.Name.{nameHash}
 use Rattle.names.proofs.Hash.{refused-by-six}
 use Rattle.name_state.specs.State.{State, null, bitmap, binding, keyed}
 use Rattle.name_states.specs.Written.{has, textsBytes, numbersBytes, heldBytes, timesBytes, recordWith, stateBytes, checkedSize}
-use Rattle.name_states.specs.Read.{upTo, textAt, textsAt, numbersAt, present, ownerAt, amountAt, amountsAt, heldAt, timesAt, gathered, optionalAt, fieldsAt, judged, readState}
-use Rattle.name_states.specs.Theorems.{Writable, StateReadsBack, AcceptedIsWritten, StateHasOneReading, SameBytesSameKey, Samples}
+use Rattle.name_states.specs.Read.{textsAt, numbersAt, present, ownerAt, amountAt, amountsAt, heldAt, timesAt, gathered, optionalAt, fieldsAt, judged, readState}
+use Rattle.name_states.specs.Theorems.{Writable, StateReadsBack, AcceptedIsWritten, StateHasOneReading, SameBytesSameKey}
 use Rattle.name_states.proofs.Inside.{up-to, texts-inside}
 use Rattle.name_states.proofs.Canonical.{finish-end}
 use Rattle.name_states.proofs.Checks.{passes, passing}
@@ -157,7 +156,3 @@ same-bytes-same-key t u wt wu nt nu e =
     let b = key-is-hash u nu (bound u wu) in
     let c = sym (a .1) ∙ ap (λ (x : State). nameHash (x .name)) m ∙ b .1 in
     cc
-
-pub samples : Samples
-unfolding le bytes inside remainingAt sliceAt bytesAt fixedAt canonical compact compactAt finishAt same sameOutpoint isNull null binding bitmap textsBytes numbersBytes heldBytes timesBytes recordWith stateBytes upTo textAt textsAt numbersAt ownerAt amountAt amountsAt heldAt timesAt gathered optionalAt fieldsAt judged readState
-samples = record { zeros-accepted = λ key. refl; name-accepted = λ key. refl; value-zero = λ key. refl }

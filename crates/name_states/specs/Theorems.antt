@@ -1,13 +1,12 @@
 -- What is shown of states and their records. The statements; their proofs are in proofs/Theorems.antt.
 use mathlib.Core.Path.{_≡_}
 use Prim.Native.Nat.{ℕ, _^_, _<_}
-use mathlib.Core.List.{List, [], _∷_, _++_}
+use mathlib.Core.List.{List, _++_}
 use mathlib.Core.Bool.{false}
-use lib.ListN.{length, replicate}
-use Rattle.refusal.specs.Outcome.{ok, err, wrote}
+use lib.ListN.{length}
+use Rattle.refusal.specs.Outcome.{ok, wrote}
 use Rattle.primitives.specs.Theorems as outpoints
 use Rattle.name_state.specs.State.{State, null}
-use Rattle.name_state.specs.Paper.{nullState}
 use Rattle.name_states.specs.Written.{stateBytes, checkedSize}
 use Rattle.name_states.specs.Read.{readState}
 
@@ -42,10 +41,3 @@ StateHasOneReading = (t u : State) (rest : List ℕ) → Writable t → Writable
 -- two states with the same bytes, neither null, have the same key
 abbrev pub SameBytesSameKey : Type 0
 SameBytesSameKey = (t u : State) → Writable t → Writable u → null t ≡ false → null u ≡ false → stateBytes t ≡ stateBytes u → t .key ≡ u .key
-
--- document 01's sample table, the P lines on states, under every key: "13 zeros accepted; `01 41` and 12 zeros accepted under any key" and
--- "Bitmap `02 00` then `00`, all else zero: 8"
-pub record Samples : Type 0 where
-  pub zeros-accepted : (key : List ℕ) → readState key (replicate 13 0) ≡ ok (nullState key []) 13
-  pub name-accepted : (key : List ℕ) → readState key (0x01 ∷ 0x41 ∷ replicate 12 0) ≡ ok (nullState key (0x41 ∷ [])) 14
-  pub value-zero : (key : List ℕ) → readState key (replicate 11 0 ++ (0x02 ∷ 0x00 ∷ 0x00 ∷ [])) ≡ err 8 [] 14
