@@ -1,4 +1,3 @@
-# crates/links/specs/Rules.antt: the link rules on lists, written from document 01; not checked yet (names.specs.Blind and sheets.specs.Sheet stand)
 -- The link rules: document 01, "Link rules", on lists of inputs, outputs and coins. Nothing here knows of sheets.
 -- Kinds (covenants/specs/Kind.antt): 0 None, 1 Claim, 2 Open, 3 Bid, 4 Reveal, 5 Redeem, 6 Register, 7 Update, 8 Renew, 9 Transfer, 10 Finalize, 11 Revoke.
 use Prim.Native.Nat.{ℕ, suc, _+_}
@@ -11,6 +10,7 @@ use Rattle.words.specs.Sameness.{same}
 use Rattle.primitives.specs.declared.Outpoint.{Outpoint}
 use Rattle.primitives.specs.Outpoints.{sameOutpoint, isNull}
 use Rattle.covenants.specs.Kind.{isName, isLinked}
+use Rattle.covenants.specs.Items.{Maybe, there, absent}
 use Rattle.names.specs.Blind.{blindOf}
 use Rattle.sheets.specs.Sheet.{Output, Coin}
 
@@ -107,37 +107,37 @@ transferRule i spent made =
     (transition false i spent made)))
 
 -- None, Open, Redeem: "no partner passes; partner None, Open or Bid, else 14"; no output is linked
-unfoldable pub freeRule : ℕ → Output → List Output → Step
-freeRule i spent [] = passes false
-freeRule i spent (made ∷ others) = after (transition (oneOf (made .kind) (0 ∷ 2 ∷ 3 ∷ [])) i spent made) (passes false)
+unfoldable pub freeRule : ℕ → Output → Maybe Output → Step
+freeRule i spent absent = passes false
+freeRule i spent (there made) = after (transition (oneOf (made .kind) (0 ∷ 2 ∷ 3 ∷ [])) i spent made) (passes false)
 
 -- 12 to 255: "partner of kind 1 to 11: 25; else passes"
-unfoldable pub unknownRule : ℕ → List Output → Step
-unknownRule i [] = passes false
-unknownRule i (made ∷ others) = pick (isName (made .kind)) (breaks 25 (i ∷ made .kind ∷ [])) (passes false)
+unfoldable pub unknownRule : ℕ → Maybe Output → Step
+unknownRule i absent = passes false
+unknownRule i (there made) = pick (isName (made .kind)) (breaks 25 (i ∷ made .kind ∷ [])) (passes false)
 
--- "partner (13)": "The partner is the output of the same index", the first of the outputs from that index on
-abbrev pub partner : ℕ → Output → List Output → (Output → Step) → Step
-partner i spent [] row = breaks 13 (i ∷ spent .kind ∷ [])
-partner i spent (made ∷ others) row = row made
+-- "partner (13)", and then the rest of its row
+abbrev pub paired : ℕ → Output → Maybe Output → (Output → Step) → Step
+paired i spent absent row = breaks 13 (i ∷ spent .kind ∷ [])
+paired i spent (there made) row = row made
 
 -- the table, by the spent kind
-unfoldable pub rule : ℕ → Output → List Output → Step
-rule i spent outputs =
-    pick (oneOf (spent .kind) (0 ∷ 2 ∷ 5 ∷ [])) (freeRule i spent outputs)
-    (pick (eqb (spent .kind) 3) (partner i spent outputs (bidRule i spent))
-    (pick (oneOf (spent .kind) (1 ∷ 4 ∷ [])) (partner i spent outputs (revealRule i spent))
-    (pick (oneOf (spent .kind) (6 ∷ 7 ∷ 8 ∷ 10 ∷ [])) (partner i spent outputs (ownedRule i spent))
-    (pick (eqb (spent .kind) 9) (partner i spent outputs (transferRule i spent))
+unfoldable pub rule : ℕ → Output → Maybe Output → Step
+rule i spent partner =
+    pick (oneOf (spent .kind) (0 ∷ 2 ∷ 5 ∷ [])) (freeRule i spent partner)
+    (pick (eqb (spent .kind) 3) (paired i spent partner (bidRule i spent))
+    (pick (oneOf (spent .kind) (1 ∷ 4 ∷ [])) (paired i spent partner (revealRule i spent))
+    (pick (oneOf (spent .kind) (6 ∷ 7 ∷ 8 ∷ 10 ∷ [])) (paired i spent partner (ownedRule i spent))
+    (pick (eqb (spent .kind) 9) (paired i spent partner (transferRule i spent))
     (pick (eqb (spent .kind) 11) (breaks 24 (i ∷ []))
-    (unknownRule i outputs))))))
+    (unknownRule i partner))))))
 
 -- ---- the whole
 
 pub data Verdict : Type 0 where
-  linked : ℕ → ℕ → ℕ → Verdict                       -- "Summary: inputs; partners accepted in rows Bid to Transfer; spent kinds 1 to 11"
+  linked : ℕ → ℕ → ℕ → Verdict  -- "Summary: inputs; partners accepted in rows Bid to Transfer; spent kinds 1 to 11"
   broken : ℕ → List ℕ → Verdict
-  differs : ℕ → Outpoint → Outpoint → Verdict        -- 12: the input, and both outpoints
+  differs : ℕ → Outpoint → Outpoint → Verdict  -- 12: the input, and both outpoints
 
 abbrev pub one : Bool → ℕ
 one true = 1
@@ -147,9 +147,14 @@ abbrev pub onward : Step → (Bool → Verdict) → Verdict
 onward (passes n) next = next n
 onward (breaks k vs) next = broken k vs
 
+-- "The partner is the output of the same index": the first of the outputs from that index on
+abbrev pub partnerIn : List Output → Maybe Output
+partnerIn [] = absent
+partnerIn (made ∷ later) = there made
+
 abbrev pub others : List Output → List Output
 others [] = []
-others (x ∷ xs) = xs
+others (made ∷ later) = later
 
 -- "Then outputs past the inputs: kinds 4 to 11 give 26; Claim passes"
 unfoldable pub unpaired : ℕ → Verdict → List Output → Verdict
@@ -163,7 +168,7 @@ linksFrom i outs names [] coins outputs = unpaired i (linked i outs names) outpu
 linksFrom i outs names (x ∷ xs) [] outputs = unpaired i (linked i outs names) outputs
 linksFrom i outs names (x ∷ xs) (c ∷ cs) outputs =
     pick (sameOutpoint x (c .outpoint))
-    (onward (rule i (c .output) outputs) (λ n. linksFrom (suc i) (outs + one n) (names + one (isName (c .output .kind))) xs cs (others outputs)))
+    (onward (rule i (c .output) (partnerIn outputs)) (λ n. linksFrom (suc i) (outs + one n) (names + one (isName (c .output .kind))) xs cs (others outputs)))
     (differs i x (c .outpoint))
 
 -- "Coinbase (first input null): 10"

@@ -1,0 +1,5 @@
+pub mod Chain
+pub mod Spots
+pub mod Lent
+pub mod Theorems
+pub mod One

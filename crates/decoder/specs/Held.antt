@@ -1,0 +1,24 @@
+-- The reader that holds the lent slice: document 01, "Forms to change".
+use Prim.Native.Nat.{ℕ}
+use mathlib.Core.List.{List}
+use Rattle.refusal.specs.Outcome.{Outcome, ok, err, then}
+use Rattle.encoding.specs.Wire.{compactMost, sliceAt, finishAt}
+use Rattle.decoder.specs.declared.Decoder.{Decoder}
+
+-- "A refused read .. also returns the position where the Rust's `Decoder` then stands"; one that was not refused stands after what it read
+abbrev pub stands : {A : Type 0} → Outcome A → ℕ
+stands (ok a next) = next
+stands (err k vs p) = p
+
+-- the decoder after a read: the same slice at the same place, and the position in the read's outcome
+abbrev pub after : {A : Type 0} → Decoder → Outcome A → Decoder
+after d o = record { input = d .input; position = stands o }
+
+-- the next n bytes, where they stand, and nothing after them
+unfoldable pub lastSlice : ℕ → List ℕ → ℕ → Outcome (ℕ × ℕ)
+lastSlice n s at = then (sliceAt n s at) (λ part end. then (finishAt s end) (λ _ at. ok part at))
+
+-- the whole input is a compact size of at most maximum and as many bytes: where they stand. Three reads in a row, and the first refusal is the answer
+unfoldable pub wholeVarbytes : ℕ → List ℕ → Outcome (ℕ × ℕ)
+unfolding lastSlice
+wholeVarbytes maximum s = then (compactMost maximum s 0) (λ n next. lastSlice n s next)

@@ -1,0 +1,176 @@
+-- What two sheets that were judged hold, by their counts.
+use mathlib.Core.Path.{_≡_, refl, ap, sym, subst, _∙_}
+use Prim.Native.Nat.{ℕ, zero, suc, _+_, _-_, _*_, _^_, _≤_, _<_}
+use native.Mathlib.Omega.{arith}
+use mathlib.Core.List.{List, [], _∷_, map}
+use mathlib.Core.Bool.{true, false}
+use lib.ListN.{length, length-map}
+use borrow.Author.Tests.{eq-eqb, ne-eqb}
+use Rattle.refusal.specs.Outcome.{Outcome, ok, err, manyAt}
+use Rattle.refusal.proofs.Many.{many-next, many-none, many-long}
+use Rattle.primitives.specs.declared.Outpoint.{Outpoint}
+use Rattle.primitives.specs.Outpoints.{shownOutpoint, isNull}
+use Rattle.sheets.specs.Sheet.{Output, Coin, outputOf, coinOf, inputAt, placeAt, coinAt, ledgerAt, transactionAt, coinsAt, whole, refused, judged, transactionOf, coinsOf, transactionCounts, coinCounts}
+use Rattle.sheets.specs.declared.Place.{Place}
+use Rattle.sheets.proofs.Reading.{input-moves, place-read}
+use Rattle.sheets.proofs.Whole.{TransactionIs, transaction-is, CoinsAre, coins-are, sheet-read}
+use Rattle.links.specs.Rules.{Verdict, broken, linksFrom, coinbase, linksOf}
+use Rattle.links.specs.Verify.{plain, told, stopped, verifyOf}
+use Rattle.links.specs.Walk.{listOf, inputsIn, outputsIn, coinsIn, Sheets}
+use Rattle.links.proofs.Walking.{outpoint-is}
+
+-- ---- where lists end that were read
+
+module _ (s : List ℕ) (big : length s < 2 ^ 64) (most : ℕ) (within : length s ≤ most) where
+  -- inputs take 36 bytes each
+  pub inputs-move : (n at : ℕ) {xs : List Outpoint} {end : ℕ} → at ≤ most → manyAt (inputAt s) n at ≡ ok xs end → (end ≡ at + n * 36) × (end ≤ most)
+  unfolding manyAt
+  inputs-move zero at {xs} {end} h e = let z : at ≡ end = cc in (omega arith, omega arith)
+  inputs-move (suc n) at {xs} {end} h e =
+      let w = many-next (inputAt s) {n = n} {n′ = suc n} refl e in
+      let o = input-moves s at big (w .here) in
+      let rest = inputs-move n (w .next) (omega (arith, o)) (w .rest) in
+      (omega (arith, o, rest), rest .1)
+
+  -- outputs take a byte at least
+  pub places-move : (side n at : ℕ) {ps : List Place} {end : ℕ} → at ≤ most → manyAt (placeAt side s) n at ≡ ok ps end → (at + n ≤ end) × (end ≤ most)
+  unfolding manyAt
+  places-move side zero at {ps} {end} h e = let z : at ≡ end = cc in (omega arith, omega arith)
+  places-move side (suc n) at {ps} {end} h e =
+      let w = many-next (placeAt side s) {n = n} {n′ = suc n} refl e in
+      let o = place-read s big side at (w .here) in
+      let rest = places-move side n (w .next) (omega (arith, o .ends)) (w .rest) in
+      (omega (arith, o .later, rest), rest .1)
+
+-- ---- sheets that were judged
+
+transaction-small : (tx : List ℕ) {t : List Outpoint × List Place} {q : ℕ} → transactionAt tx ≡ ok t q → length tx ≤ 16777216
+unfolding transactionAt
+transaction-small tx e = sheet-read 0 tx (ledgerAt tx) e .small
+
+coins-small : (coins : List ℕ) {cs : List (Outpoint × Place)} {q : ℕ} → coinsAt coins ≡ ok cs q → length coins ≤ 16777216
+unfolding coinsAt
+coins-small coins e = sheet-read 1 coins (λ counts next. manyAt (coinAt coins) (counts .0) next) e .small
+
+module _ (tx : List ℕ) {inputs outputs : ℕ} (t : TransactionIs tx (inputs, outputs)) where
+  inputs-end : (t .middle ≡ 4 + inputs * 36) × (t .middle ≤ 4 + length tx)
+  inputs-end = let small = transaction-small tx (t .read .1) in inputs-move tx (omega arith) (4 + length tx) (omega arith) inputs 4 (omega arith) (t .inputs)
+
+  outputs-end : (t .middle + outputs ≤ t .end) × (t .end ≤ 4 + length tx)
+  outputs-end = let small = transaction-small tx (t .read .1) in places-move tx (omega arith) (4 + length tx) (omega arith) 0 outputs (t .middle) (inputs-end .1) (t .outputs)
+
+  outputs-at : manyAt (placeAt 0 tx) outputs (4 + inputs * 36) ≡ ok (t .lists .1) (t .end)
+  outputs-at = ap (manyAt (placeAt 0 tx) outputs) (sym (inputs-end .0)) ∙ t .outputs
+
+pub both : (tx coins : List ℕ) {inputs outputs n z : ℕ} → transactionCounts tx ≡ whole (inputs, outputs) → coinCounts coins ≡ whole (n, z) → Sheets tx coins inputs outputs n
+both tx coins {inputs} {outputs} e f =
+    let t = transaction-is tx e in
+    let k = coins-are coins f in
+    let small = transaction-small tx (t .read .1) in
+    let small-coins = coins-small coins (k .read .1) in
+    record {
+      ins = t .lists .0;
+      outs = t .lists .1;
+      cs = k .list;
+      ends = (t .middle, t .end, k .end);
+      few = omega (arith, inputs-end tx t, outputs-end tx t);
+      long = (omega arith, omega arith);
+      inputs-read = t .inputs;
+      outputs-read = outputs-at tx t;
+      coins-read = k .coins;
+    }
+
+-- a judgement refuses whatever is asked of the sheet
+refuses : {A B C : Type 0} (side : ℕ) (f : A → B) (g : A → C) (o : Outcome A) {k : ℕ} {vs : List ℕ} {d : ℕ} → judged side f o ≡ refused k vs d → judged side g o ≡ refused k vs d
+refuses side f g (ok a end) {k} {vs} {d} e = absurd (let z : _≡_ {A = ℕ} 0 1 = cc in omega arith)
+refuses side f g (err k vs p) {k = k′} {vs = vs′} {d = d} e =
+    let a : k ≡ k′ = cc in
+    let b : vs ≡ vs′ = cc in
+    let c : side ≡ d = cc in
+    rw (a, b, c)
+
+transaction-not : (tx : List ℕ) {k : ℕ} {vs : List ℕ} {d : ℕ} → transactionCounts tx ≡ refused k vs d → transactionOf tx ≡ refused k vs d
+unfolding transactionCounts transactionOf
+transaction-not tx e =
+    refuses 0 (λ (t : List Outpoint × List Place). (length (t .0), length (t .1))) (λ (t : List Outpoint × List Place). record { inputs = t .0; outputs = map (outputOf tx) (t .1) }) (transactionAt tx) e
+
+coins-not : (coins : List ℕ) {k : ℕ} {vs : List ℕ} {d : ℕ} → coinCounts coins ≡ refused k vs d → coinsOf coins ≡ refused k vs d
+unfolding coinCounts coinsOf
+coins-not coins e = refuses 1 (λ (cs : List (Outpoint × Place)). (length cs, 0)) (map (coinOf coins)) (coinsAt coins) e
+
+transaction-holds : (tx : List ℕ) {counts : ℕ × ℕ} (t : TransactionIs tx counts) → transactionOf tx ≡ whole (record { inputs = t .lists .0; outputs = map (outputOf tx) (t .lists .1) })
+unfolding transactionOf
+transaction-holds tx t = rw (t .read .1)
+
+coins-hold : (coins : List ℕ) {n : ℕ} (k : CoinsAre coins n) → coinsOf coins ≡ whole (map (coinOf coins) (k .list))
+unfolding coinsOf
+coins-hold coins k = rw (k .read .1)
+
+module _ (tx coins : List ℕ) where
+  pub transaction-refused : {k : ℕ} {vs : List ℕ} {d : ℕ} → transactionCounts tx ≡ refused k vs d → plain (stopped k vs d) ≡ verifyOf tx coins
+  unfolding verifyOf
+  transaction-refused e = rw (transaction-not tx e)
+
+  pub coins-refused : {counts : ℕ × ℕ} {k : ℕ} {vs : List ℕ} {d : ℕ} → transactionCounts tx ≡ whole counts → coinCounts coins ≡ refused k vs d → plain (stopped k vs d) ≡ verifyOf tx coins
+  unfolding verifyOf
+  coins-refused e f = rw (transaction-holds tx (transaction-is tx e), coins-not coins f)
+
+  pub verify-is : {inputs outputs n z : ℕ} → transactionCounts tx ≡ whole (inputs, outputs) → coinCounts coins ≡ whole (n, z)
+      → told (linksOf (inputsIn tx inputs) (outputsIn tx outputs (4 + inputs * 36)) (coinsIn coins n)) ≡ verifyOf tx coins
+  unfolding verifyOf
+  verify-is e f =
+      let t = transaction-is tx e in
+      let k = coins-are coins f in
+      rw (transaction-holds tx t, coins-hold coins k, t .inputs, outputs-at tx t, k .coins)
+
+-- ---- 10 and 11
+
+module _ (tx : List ℕ) (n : ℕ) {xs : List Outpoint} {end : ℕ} (reads : manyAt (inputAt tx) n 4 ≡ ok xs end) where
+  pub no-inputs : n ≡ 0 → false ≡ coinbase (inputsIn tx n)
+  unfolding coinbase
+  no-inputs z = let e = many-none (inputAt tx) {n = n} 4 z reads in rw (reads, e)
+
+  pub null-first : {x : Outpoint} → (n ≡ 0 → ⊥) → x ≡ shownOutpoint (inputAt tx 4) .1 → isNull x ≡ coinbase (inputsIn tx n)
+  unfolding coinbase
+  null-first {x} h e =
+      let w = many-next (inputAt tx) {n = n - 1} {n′ = n} (omega arith) reads in
+      let l : inputsIn tx n ≡ w .first ∷ w .others = ap (λ (o : Outcome (List Outpoint)). listOf o) reads ∙ w .split in
+      ap isNull (outpoint-is tx 4 e (w .here)) ∙ ap coinbase (sym l)
+
+module _ (xs : List Outpoint) (os : List Output) (cs : List Coin) (e : coinbase xs ≡ false) where
+  count-differs : {a b : ℕ} → length xs ≡ a → length cs ≡ b → (a ≡ b → ⊥) → broken 11 (a ∷ b ∷ []) ≡ linksOf xs os cs
+  unfolding linksOf
+  count-differs p q h = rw (e, p, q, ne-eqb _ _ h)
+
+  count-same : length xs ≡ length cs → linksFrom 0 0 0 xs cs os ≡ linksOf xs os cs
+  unfolding linksOf
+  count-same p = rw (e, eq-eqb _ _ p)
+
+module _ (tx coins : List ℕ) (inputs outputs n : ℕ) (s : Sheets tx coins inputs outputs n) where
+  abbrev Links : Verdict
+  Links = linksOf (inputsIn tx inputs) (outputsIn tx outputs (4 + inputs * 36)) (coinsIn coins n)
+
+  inputs-long : length (inputsIn tx inputs) ≡ inputs
+  inputs-long = ap (λ (o : Outcome (List Outpoint)). length (listOf o)) (s .inputs-read) ∙ many-long (inputAt tx) inputs 4 (s .inputs-read)
+
+  coins-long : length (coinsIn coins n) ≡ n
+  coins-long =
+      length-map (listOf (manyAt (coinAt coins) n 4)) (coinOf coins)
+      ∙ ap (λ (o : Outcome (List (Outpoint × Place))). length (listOf o)) (s .coins-read)
+      ∙ many-long (coinAt coins) n 4 (s .coins-read)
+
+  pub is-coinbase : coinbase (inputsIn tx inputs) ≡ true → broken 10 [] ≡ Links
+  unfolding linksOf
+  is-coinbase e = rw e
+
+  module _ (e : coinbase (inputsIn tx inputs) ≡ false) where
+    pub counts-differ : (inputs ≡ n → ⊥) → broken 11 (inputs ∷ n ∷ []) ≡ Links
+    counts-differ h = count-differs (inputsIn tx inputs) (outputsIn tx outputs (4 + inputs * 36)) (coinsIn coins n) e inputs-long coins-long h
+
+    pub counts-agree : inputs ≡ n → linksFrom 0 0 0 (inputsIn tx inputs) (coinsIn coins inputs) (outputsIn tx outputs (4 + inputs * 36)) ≡ Links
+    counts-agree h =
+        ap (λ (m : ℕ). linksFrom 0 0 0 (inputsIn tx inputs) (coinsIn coins m) (outputsIn tx outputs (4 + inputs * 36))) h
+        ∙ count-same (inputsIn tx inputs) (outputsIn tx outputs (4 + inputs * 36)) (coinsIn coins n) e (inputs-long ∙ h ∙ sym coins-long)
+
+  pub paired : inputs ≡ n → Sheets tx coins inputs outputs inputs
+  paired h = subst (Sheets tx coins inputs outputs) (sym h) s

@@ -1,0 +1,30 @@
+-- The samples of specs/Samples.antt: each by computing the rules.
+use mathlib.Core.Path.{refl}
+use Rattle.words.specs.Words.{le}
+use Rattle.words.specs.Sameness.{same}
+use Rattle.refusal.specs.Outcome.{manyAt}
+use Rattle.encoding.specs.Wire.{inside, sliceAt, fixedAt, canonical, compactAt, most, compactMost, finishAt}
+use Rattle.primitives.specs.Outpoints.{sameOutpoint, isNull}
+use Rattle.covenants.specs.Covenant as covenant
+use Rattle.sheets.specs.Sheet.{spell, itemsFrom, headFields, headAt, inputAt, bodyAt, placeAt, coinAt, sheetAt, ledgerAt, transactionAt, coinsAt, transactionOf, coinsOf}
+use Rattle.links.specs.Rules.{agree, nameAndStart, ownedRule, rule, unpaired, linksFrom, coinbase, linksOf}
+use Rattle.links.specs.Verify.{verifyOf}
+use Rattle.links.specs.Samples.{Samples}
+
+pub samples : Samples
+unfolding le same manyAt inside sliceAt fixedAt canonical compactAt most compactMost finishAt sameOutpoint isNull covenant.allowed covenant.itemAt covenant.headAt covenant.bodyAt covenant.opening covenant.covenantAt spell itemsFrom headFields headAt inputAt bodyAt placeAt coinAt sheetAt ledgerAt transactionAt coinsAt transactionOf coinsOf agree nameAndStart ownedRule rule unpaired linksFrom coinbase linksOf verifyOf
+samples =
+    record {
+      empty = refl;
+      unpaired-reveal = refl;
+      unpaired-claim = refl;
+      unequal-values = refl;
+      equal-values = refl;
+      other-outpoint = refl;
+      null-input = refl;
+      no-coin = refl;
+      other-side = refl;
+      outputs-on-coins = refl;
+      no-file = refl;
+      byte-over = refl;
+    }

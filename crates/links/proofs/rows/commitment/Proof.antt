@@ -1,0 +1,73 @@
+use borrow.Author.Needs.{needs}
+use native.Mathlib.Omega.{arith}
+use mathlib.Core.Path.{_≡_, refl, ap, sym, _∙_}
+use mathlib.Core.Path.{_≡_, refl, ap, sym, subst, _∙_}
+use Rattle.words.proofs.Le.{part-long}
+use Rattle.links.specs.Workers.{Sizes}
+use Rattle.links.proofs.Judging.{open-first, open-second, open-other, open-above, open-fine}
+use Rattle.links.proofs.rows.commitment.Statement.{statement}
+use Rattle.links.proofs.rows.commitment.Tie as tie
+use Rattle.links.proofs.rows.commitment.Reads as reads
+use Rattle.links.proofs.rows.commitment.Lts as lts
+
+sized-item-requires : tie.Need-sized-item-requires
+sized-item-requires c κs = search needs
+
+enum-known-a : tie.Need-enum-known-a
+enum-known-a c = search needs
+
+enum-told : tie.Need-enum-told
+enum-told c = search needs
+
+returns : tie.Need-returns
+returns c = open-first _ _ _ (subst (Sizes (c .before .before .before .before .before .args .tx .now) (c .before .before .before .before .before .args .made .covenant) 2 32) (c .enum-told .given .1) (c .before .before .sized-item .ensures))
+
+sized-item-requires-2 : tie.Need-sized-item-requires-2
+sized-item-requires-2 c κs = search needs
+
+enum-known-b : tie.Need-enum-known-b
+enum-known-b c = search needs
+
+enum-told-2 : tie.Need-enum-told-2
+enum-told-2 c = search needs
+
+returns-2 : tie.Need-returns-2
+returns-2 c = let x = subst (Sizes (c .before .before .before .before .before .before .before .before .before .args .tx .now) (c .before .before .before .before .before .before .before .before .before .args .made .covenant) 2 32) (c .before .before .before .before .a .given .1) (c .before .before .before .before .before .before .sized-item .ensures) in
+    open-second _ _ _ (x .1) (part-long _ _ _ (x .0)) (subst (Sizes (c .before .before .before .before .before .before .before .before .before .args .coins .now) (c .before .before .before .before .before .before .before .before .before .args .spent .covenant) 3 32) (c .enum-told2 .given .1) (c .before .before .sized-item2 .ensures))
+
+commits-requires : tie.Need-commits-requires
+commits-requires c κs = let x = subst (Sizes (c .before .before .before .before .before .before .before .before .before .before .before .args .tx .now) (c .before .before .before .before .before .before .before .before .before .before .before .args .made .covenant) 2 32) (c .before .before .before .before .before .before .a .given .1) (c .before .before .before .before .before .before .before .before .sized-item .ensures) in
+    let y = subst (Sizes (c .before .before .before .before .before .before .before .before .before .before .before .args .coins .now) (c .before .before .before .before .before .before .before .before .before .before .before .args .spent .covenant) 3 32) (c .before .before .b .given .1) (c .before .before .before .before .sized-item2 .ensures) in
+    (x .0, y .0)
+
+returns-3 : tie.Need-returns-3
+returns-3 c = let x = subst (Sizes (c .before .before .before .before .before .before .before .before .before .before .before .before .before .before .before .before .args .tx .now) (c .before .before .before .before .before .before .before .before .before .before .before .before .before .before .before .before .args .made .covenant) 2 32) (c .before .before .before .before .before .before .before .before .before .before .before .a .given .1) (c .before .before .before .before .before .before .before .before .before .before .before .before .before .sized-item .ensures) in
+    let y = subst (Sizes (c .before .before .before .before .before .before .before .before .before .before .before .before .before .before .before .before .args .coins .now) (c .before .before .before .before .before .before .before .before .before .before .before .before .before .before .before .before .args .spent .covenant) 3 32) (c .before .before .before .before .before .before .before .b .given .1) (c .before .before .before .before .before .before .before .before .before .sized-item2 .ensures) in
+    open-above _ _ _ (x .1) (part-long _ _ _ (x .0)) (y .1) (part-long _ _ _ (y .0)) (sym (c .before .before .before .before .commits .ensures) ∙ c .before .before .before .if1 .taken) (c .if2 .taken)
+
+returns-4 : tie.Need-returns-4
+returns-4 c = let x = subst (Sizes (c .before .before .before .before .before .before .before .before .before .before .before .before .before .before .before .before .args .tx .now) (c .before .before .before .before .before .before .before .before .before .before .before .before .before .before .before .before .args .made .covenant) 2 32) (c .before .before .before .before .before .before .before .before .before .before .before .a .given .1) (c .before .before .before .before .before .before .before .before .before .before .before .before .before .sized-item .ensures) in
+    let y = subst (Sizes (c .before .before .before .before .before .before .before .before .before .before .before .before .before .before .before .before .args .coins .now) (c .before .before .before .before .before .before .before .before .before .before .before .before .before .before .before .before .args .spent .covenant) 3 32) (c .before .before .before .before .before .before .before .b .given .1) (c .before .before .before .before .before .before .before .before .before .sized-item2 .ensures) in
+    open-fine _ _ _ (x .1) (part-long _ _ _ (x .0)) (y .1) (part-long _ _ _ (y .0)) (sym (c .before .before .before .before .commits .ensures) ∙ c .before .before .before .if1 .taken) (c .if2 .left)
+
+returns-5 : tie.Need-returns-5
+returns-5 c = let x = subst (Sizes (c .before .before .before .before .before .before .before .before .before .before .before .before .before .args .tx .now) (c .before .before .before .before .before .before .before .before .before .before .before .before .before .args .made .covenant) 2 32) (c .before .before .before .before .before .before .before .before .a .given .1) (c .before .before .before .before .before .before .before .before .before .before .sized-item .ensures) in
+    let y = subst (Sizes (c .before .before .before .before .before .before .before .before .before .before .before .before .before .args .coins .now) (c .before .before .before .before .before .before .before .before .before .before .before .before .before .args .spent .covenant) 3 32) (c .before .before .before .before .b .given .1) (c .before .before .before .before .before .before .sized-item2 .ensures) in
+    open-other _ _ _ (x .1) (part-long _ _ _ (x .0)) (y .1) (part-long _ _ _ (y .0)) (sym (c .before .commits .ensures) ∙ c .if1 .left)
+
+pub commitment-spec : {M : Type 1} → statement M
+commitment-spec =
+    tie.close
+    (tie.spec
+    sized-item-requires
+    enum-known-a
+    enum-told
+    returns
+    sized-item-requires-2
+    enum-known-b
+    enum-told-2
+    returns-2
+    commits-requires
+    returns-3
+    returns-4
+    returns-5)

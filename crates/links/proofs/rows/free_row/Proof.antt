@@ -1,0 +1,22 @@
+use borrow.Author.Needs.{needs}
+use native.Mathlib.Omega.{arith}
+use mathlib.Core.Path.{_≡_, refl, ap, sym, _∙_}
+use Rattle.links.proofs.rows.free_row.Statement.{statement}
+use Rattle.links.proofs.rows.free_row.Tie as tie
+use Rattle.links.proofs.rows.free_row.Reads as reads
+use Rattle.links.proofs.rows.free_row.Lts as lts
+
+is-free-requires : tie.Need-is-free-requires
+is-free-requires c κs = search needs
+
+returns : tie.Need-returns
+returns c = rw (← c .before .is-free .ensures, c .if1 .taken)
+
+invalid-transition-requires : tie.Need-invalid-transition-requires
+invalid-transition-requires c κs = search needs
+
+returns-2 : tie.Need-returns-2
+returns-2 c = rw (← c .before .before .is-free .ensures, c .before .if1 .left) (c .invalid-transition .ensures)
+
+pub free-row-spec : {M : Type 1} → statement M
+free-row-spec = tie.close (tie.spec is-free-requires returns invalid-transition-requires returns-2)

@@ -1,0 +1,21 @@
+use borrow.Author.Needs.{needs}
+use native.Mathlib.Omega.{arith}
+use mathlib.Core.Path.{_≡_, refl, ap, sym, _∙_}
+use borrow.Author.Tests.{eq-eqb, ne-eqb}
+use Rattle.links.proofs.Judging.{one-of-one}
+use Rattle.links.proofs.rows.keeps.Statement.{statement}
+use Rattle.links.proofs.rows.keeps.Tie as tie
+use Rattle.links.proofs.rows.keeps.Reads as reads
+use Rattle.links.proofs.rows.keeps.Lts as lts
+
+returns : tie.Need-returns
+returns c = rw (eq-eqb _ _ (c .if1 .taken))
+
+returns-2 : tie.Need-returns-2
+returns-2 c = rw (ne-eqb _ _ (c .before .if1 .left), eq-eqb _ _ (c .if2 .taken))
+
+returns-3 : tie.Need-returns-3
+returns-3 c = rw (ne-eqb _ _ (c .before .if1 .left), ne-eqb _ _ (c .if2 .left)) (one-of-one (c .before .before .args .to) 11)
+
+pub keeps-spec : {M : Type 1} → statement M
+keeps-spec = tie.close (tie.spec returns returns-2 returns-3)

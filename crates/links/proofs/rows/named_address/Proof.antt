@@ -1,0 +1,47 @@
+use borrow.Author.Needs.{needs}
+use native.Mathlib.Omega.{arith}
+use mathlib.Core.Path.{_≡_, refl, ap, sym, _∙_}
+use Rattle.sheets.specs.Sheet.{outputOf}
+use Rattle.refusal.proofs.Outcomes.{told}
+use Rattle.covenants.specs.Paper.{spotPaper}
+use Rattle.links.proofs.Comparing.{item-there, item-inside, item-counted, item-few}
+use Rattle.links.proofs.Judging.{named-there, named-absent}
+use Rattle.links.proofs.rows.named_address.Statement.{statement}
+use Rattle.links.proofs.rows.named_address.Tie as tie
+use Rattle.links.proofs.rows.named_address.Reads as reads
+use Rattle.links.proofs.rows.named_address.Lts as lts
+
+find-requires : tie.Need-find-requires
+find-requires c κs = search needs
+
+enum-known-start : tie.Need-enum-known-start
+enum-known-start c = search needs
+
+same-address-requires : tie.Need-same-address-requires
+same-address-requires c κs = (c .before .before .before .before .before .before .before .pre .1 .0, item-inside _ _ _ (c .before .before .before .before .before .before .before .pre .0 .1 .2) (omega arith) (told spotPaper (c .before .before .before .before .find .ensures) (c .before .before .start .given .1)))
+
+returns : tie.Need-returns
+returns c = let e = told spotPaper (c .before .before .before .before .before .before .find .ensures) (c .before .before .before .before .start .given .1) in
+    named-there (c .before .before .before .before .before .before .before .before .before .args .input) (outputOf (c .before .before .before .before .before .before .before .before .before .args .coins .now) (c .before .before .before .before .before .before .before .before .before .args .spent)) (outputOf (c .before .before .before .before .before .before .before .before .before .args .tx .now) (c .before .before .before .before .before .before .before .before .before .args .made)) (c .before .before .before .before .before .before .before .before .before .args .version) (item-counted _ _ _ (c .before .before .before .before .before .before .before .before .before .pre .0 .1 .2) e) (item-there _ _ _ (c .before .before .before .before .before .before .before .before .before .pre .0 .1 .2) e) (sym (c .before .same-address .ensures) ∙ c .if1 .taken)
+
+enum-told : tie.Need-enum-told
+enum-told c = search needs
+
+returns-2 : tie.Need-returns-2
+returns-2 c = let e = told spotPaper (c .before .before .before .before .before .before .find .ensures) (c .before .before .before .before .start .given .1) in
+    named-there (c .before .before .before .before .before .before .before .before .before .args .input) (outputOf (c .before .before .before .before .before .before .before .before .before .args .coins .now) (c .before .before .before .before .before .before .before .before .before .args .spent)) (outputOf (c .before .before .before .before .before .before .before .before .before .args .tx .now) (c .before .before .before .before .before .before .before .before .before .args .made)) (c .before .before .before .before .before .before .before .before .before .args .version) (item-counted _ _ _ (c .before .before .before .before .before .before .before .before .before .pre .0 .1 .2) e) (item-there _ _ _ (c .before .before .before .before .before .before .before .before .before .pre .0 .1 .2) e) (sym (c .before .same-address .ensures) ∙ c .if1 .left)
+
+returns-3 : tie.Need-returns-3
+returns-3 c = named-absent (c .before .before .before .before .before .args .input) (outputOf (c .before .before .before .before .before .args .coins .now) (c .before .before .before .before .before .args .spent)) (outputOf (c .before .before .before .before .before .args .tx .now) (c .before .before .before .before .before .args .made)) (c .before .before .before .before .before .args .version) (item-few _ _ _ (c .before .before .before .before .before .pre .0 .1 .2) (told spotPaper (c .before .before .find .ensures) (c .enum-told .given .1)))
+
+pub named-address-spec : {M : Type 1} → statement M
+named-address-spec =
+    tie.close
+    (tie.spec
+    find-requires
+    enum-known-start
+    same-address-requires
+    returns
+    enum-told
+    returns-2
+    returns-3)

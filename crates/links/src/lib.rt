@@ -1,0 +1,84 @@
+// The link rules over two sheets: the Rust's `verify_covenant_links`.
+mod rows;
+mod walk;
+
+use crate::walk::answered;
+use crate::walk::outpoint_at;
+use crate::walk::walk;
+use primitives::Outpoint;
+use refusal::Refusal;
+use sheets::SheetRead;
+use sheets::judge_coins;
+use sheets::judge_transaction;
+ghost use mathlib.Core.Path.{_≡_};
+ghost use Prim.Native.Nat.{_+_, _*_};
+ghost use Rattle.links.specs.Rules.{coinbase, linksOf};
+ghost use Rattle.links.specs.Verify.{told, verifyOf};
+ghost use Rattle.links.specs.Paper.{verifiedPaper};
+ghost use Rattle.links.specs.Walk.{inputsIn, outputsIn, coinsIn, Inputs, Sheets};
+
+pub struct CovenantLinkSummary {
+    pub inputs_checked: usize,
+    pub linked_outputs: usize,
+    pub name_inputs: usize,
+}
+
+// Every input passes, or the first refusal: of a sheet, with its side, or of a rule.
+pub enum Links {
+    Linked(CovenantLinkSummary),
+    Refused { refusal: Refusal, side: u8 },
+}
+
+// The answer, and beside it the outpoints of 12: the input's and the coin's.
+pub struct Verified {
+    pub links: Links,
+    pub expected: Outpoint,
+    pub actual: Outpoint,
+}
+
+// Is the first input null?
+fn is_coinbase(tx: &[u8], n: usize) -> bool
+    requires { ⌜ Inputs (now tx) n ⌝ }
+    ensures { λ r. ⌜ r ≡ coinbase (inputsIn (now (tx .entry)) n) ⌝ }
+{
+    if n == 0 {
+        return false;
+    }
+    outpoint_at(tx, 4).is_null()
+}
+
+// The links of two sheets that were judged.
+fn judged_links(tx: &[u8], coins: &[u8], inputs: usize, outputs: usize, n: usize) -> Verified
+    requires { ⌜ Sheets (now tx) (now coins) inputs outputs n ⌝ }
+    ensures { λ r. ⌜ verifiedPaper r ≡ told (linksOf (inputsIn (now (tx .entry)) inputs) (outputsIn (now (tx .entry)) outputs (4 + inputs * 36)) (coinsIn (now (coins .entry)) n)) ⌝ }
+{
+    if is_coinbase(tx, inputs) {
+        return answered(Links::Refused {
+            refusal: Refusal::CoinbaseRequiresIssuanceVerifier,
+            side: 0,
+        });
+    }
+    if inputs != n {
+        return answered(Links::Refused {
+            refusal: Refusal::InputCountMismatch {
+                transaction: inputs,
+                coins: n,
+            },
+            side: 0,
+        });
+    }
+    walk(tx, coins, inputs, outputs)
+}
+
+// The transaction sheet is judged whole, then the coin sheet, then the links.
+pub fn verify_covenant_links(tx: &[u8], coins: &[u8]) -> Verified
+    ensures { λ r. ⌜ verifiedPaper r ≡ verifyOf (now (tx .entry)) (now (coins .entry)) ⌝ }
+{
+    match judge_transaction(tx) {
+        SheetRead::Counts(inputs, outputs) => match judge_coins(coins) {
+            SheetRead::Counts(n, _) => judged_links(tx, coins, inputs, outputs, n),
+            SheetRead::Refused { refusal, side } => answered(Links::Refused { refusal, side }),
+        },
+        SheetRead::Refused { refusal, side } => answered(Links::Refused { refusal, side }),
+    }
+}

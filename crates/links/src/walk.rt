@@ -1,0 +1,235 @@
+// The walk over two sheets that were judged: each input with its coin and its partner, in step, and then the outputs past them.
+use crate::CovenantLinkSummary;
+use crate::Links;
+use crate::Verified;
+use crate::rows::Partner;
+use crate::rows::Step;
+use crate::rows::row;
+use covenants::kind::is_linked;
+use covenants::kind::is_name;
+use encoding::read::Cursor;
+use primitives::Outpoint;
+use primitives::TransactionHash;
+use refusal::Refusal;
+use sheets::ReadPlace;
+use sheets::input_at;
+use sheets::place_at;
+ghost use mathlib.Core.Path.{_≡_};
+ghost use Prim.Native.Nat.{_+_, _-_, _*_, _≤_, _<_, _^_};
+ghost use Rattle.primitives.specs.Outpoints.{shownOutpoint};
+ghost use Rattle.covenants.specs.Kind.{isLinked};
+ghost use Rattle.sheets.specs.Sheet.{inputAt};
+ghost use Rattle.links.specs.Rules.{one, linked, differs, unpaired, linksFrom};
+ghost use Rattle.links.specs.Verify.{plain, told};
+ghost use Rattle.links.specs.Paper.{linksPaper, verifiedPaper, Partnered};
+ghost use Rattle.links.specs.Walk.{inputsIn, outputsIn, coinsIn, Outputs, Sheets, partnerAt, turnAt, onwardPaper};
+
+// An input's partner, and where the next output stands.
+struct Pair {
+    partner: Partner,
+    next: usize,
+}
+
+// An input that passes: whether it links an output and spends a name, and where the next coin and the next output stand; or the rule that it breaks.
+enum Onward {
+    Next(bool, bool, usize, usize),
+    Stop(Refusal),
+}
+
+// An answer without outpoints: zeros in their place.
+pub(crate) fn answered(links: Links) -> Verified
+    ensures { λ r. ⌜ verifiedPaper r ≡ plain (linksPaper links) ⌝ }
+{
+    Verified {
+        links,
+        expected: Outpoint {
+            transaction_hash: TransactionHash([0u8; 32]),
+            index: 0,
+        },
+        actual: Outpoint {
+            transaction_hash: TransactionHash([0u8; 32]),
+            index: 0,
+        },
+    }
+}
+
+// The coin of an input has another outpoint.
+fn mismatch(input: usize, expected: Outpoint, actual: Outpoint) -> Verified
+    ensures { λ r. ⌜ verifiedPaper r ≡ told (differs input expected actual) ⌝ }
+{
+    Verified {
+        links: Links::Refused {
+            refusal: Refusal::CoinOutpointMismatch { input },
+            side: 0,
+        },
+        expected,
+        actual,
+    }
+}
+
+// The outpoint of an input or a coin.
+pub(crate) fn outpoint_at(s: &[u8], at: usize) -> Outpoint
+    ensures { λ r. ⌜ r ≡ shownOutpoint (inputAt (now (s .entry)) at) .1 ⌝ }
+{
+    let read = input_at(Cursor { position: at }, s);
+    read.outpoint
+}
+
+// The partner, where outputs are left.
+fn partner_at(tx: &[u8], at: usize, left: usize) -> Pair
+    ensures { λ r. ⌜ (r ≡ partnerAt left (now (tx .entry)) at) × Partnered (now (tx .entry)) (r .partner) ⌝ }
+{
+    if left == 0 {
+        return Pair {
+            partner: Partner::Missing,
+            next: at,
+        };
+    }
+    match place_at(Cursor { position: at }, tx, 0) {
+        ReadPlace::Output(made, next) => Pair {
+            partner: Partner::Output(made),
+            next: next.position,
+        },
+        ReadPlace::Refused(_) => Pair {
+            partner: Partner::Missing,
+            next: at,
+        },
+    }
+}
+
+// One input, its outpoint apart: the coin's output stands at `at`, the partner at `output`.
+fn follow(tx: &[u8], coins: &[u8], input: usize, at: usize, output: usize, left: usize) -> Onward
+    ensures { λ r. ⌜ onwardPaper r ≡ turnAt (now (tx .entry)) (now (coins .entry)) input at output left ⌝ }
+{
+    match place_at(Cursor { position: at }, coins, 1) {
+        ReadPlace::Output(spent, next) => {
+            let pair = partner_at(tx, output, left);
+            let partner = pair.partner;
+            match row(tx, coins, input, spent, partner) {
+                Step::Passes(links) => {
+                    Onward::Next(links, is_name(spent.kind), next.position, pair.next)
+                }
+                Step::Breaks(refusal) => Onward::Stop(refusal),
+            }
+        }
+        ReadPlace::Refused(stop) => {
+            let refusal = stop.refusal;
+            Onward::Stop(refusal)
+        }
+    }
+}
+
+// Whether an output past the inputs is refused: kinds 4 to 11 are, Claim passes.
+fn must_be_paired(kind: u8) -> bool
+    ensures { λ r. ⌜ r ≡ isLinked kind ⌝ }
+{
+    is_linked(kind)
+}
+
+// The outputs past the inputs.
+fn trailing(
+    tx: &[u8],
+    at: usize,
+    n: usize,
+    left: usize,
+    linked_outputs: usize,
+    name_inputs: usize,
+) -> Verified
+    requires { ⌜ (n + left < 2 ^ 64) × Outputs (now tx) left at ⌝ }
+    ensures { λ r. ⌜ verifiedPaper r ≡ told (unpaired n (linked n «linked_outputs» «name_inputs») (outputsIn (now (tx .entry)) left at)) ⌝ }
+{
+    let mut c = Cursor { position: at };
+    let mut k: usize = 0;
+    while k < left {
+        match place_at(c, tx, 0) {
+            ReadPlace::Output(made, next) => {
+                if must_be_paired(made.kind) {
+                    return answered(Links::Refused {
+                        refusal: Refusal::UnpairedLinkedOutput {
+                            output: n + k,
+                            kind: made.kind,
+                        },
+                        side: 0,
+                    });
+                }
+                c = next;
+            }
+            ReadPlace::Refused(stop) => {
+                let refusal = stop.refusal;
+                return answered(Links::Refused { refusal, side: 0 });
+            }
+        }
+        k += 1;
+    }
+    answered(Links::Linked(CovenantLinkSummary {
+        inputs_checked: n,
+        linked_outputs,
+        name_inputs,
+    }))
+}
+
+fn count(yes: bool) -> usize
+    ensures { λ r. ⌜ (r ≡ one yes) × (r ≤ 1) ⌝ }
+{
+    if yes {
+        return 1;
+    }
+    0
+}
+
+fn remaining(outputs: usize, i: usize) -> usize
+    ensures { λ r. ⌜ r ≡ outputs - i ⌝ }
+{
+    if outputs < i {
+        return 0;
+    }
+    outputs - i
+}
+
+// The inputs in order, each fully before the next: a head has 4 bytes, an outpoint 36. The first rule broken anywhere ends it.
+pub(crate) fn walk(tx: &[u8], coins: &[u8], n: usize, outputs: usize) -> Verified
+    requires { ⌜ Sheets (now tx) (now coins) n outputs n ⌝ }
+    ensures { λ r. ⌜ verifiedPaper r ≡ told (linksFrom 0 0 0 (inputsIn (now (tx .entry)) n) (coinsIn (now (coins .entry)) n) (outputsIn (now (tx .entry)) outputs (4 + n * 36))) ⌝ }
+{
+    let mut i: usize = 0;
+    let mut input_position: usize = 4;
+    let mut coin_position: usize = 4;
+    let mut output_position: usize = 4 + n * 36;
+    let mut linked_outputs: usize = 0;
+    let mut name_inputs: usize = 0;
+    let answer = 'inputs: loop {
+        if n <= i {
+            let left = remaining(outputs, n);
+            break 'inputs trailing(tx, output_position, n, left, linked_outputs, name_inputs);
+        }
+        let expected = outpoint_at(tx, input_position);
+        let actual = outpoint_at(coins, coin_position);
+        let expected_hash = expected.transaction_hash.0;
+        let actual_hash = actual.transaction_hash.0;
+        let mut j: usize = 0;
+        while j < 32 {
+            if expected_hash[j] != actual_hash[j] {
+                break 'inputs mismatch(i, expected, actual);
+            }
+            j += 1;
+        }
+        if expected.index != actual.index {
+            break 'inputs mismatch(i, expected, actual);
+        }
+        let left = remaining(outputs, i);
+        match follow(tx, coins, i, coin_position + 36, output_position, left) {
+            Onward::Next(links, name, next_coin, next_output) => {
+                linked_outputs += count(links);
+                name_inputs += count(name);
+                coin_position = next_coin;
+                output_position = next_output;
+            }
+            Onward::Stop(refusal) => {
+                break 'inputs answered(Links::Refused { refusal, side: 0 });
+            }
+        }
+        input_position += 36;
+        i += 1;
+    };
+    answer
+}
