@@ -15,10 +15,11 @@ fn register() -> Covenant {
     }
 }
 
-fn thousand() -> Covenant {
+/// A thousand items of `length` bytes each.
+fn thousand(length: usize) -> Covenant {
     Covenant {
         kind: CovenantKind::None,
-        items: vec![Vec::new(); 1000],
+        items: vec![message(length); 1000],
     }
 }
 
@@ -26,9 +27,9 @@ fn encoded(covenant: &Covenant) -> Vec<u8> {
     covenant.encode().expect("within the limits")
 }
 
-/// Both sides read and write the two covenants alike, and refuse each beginning of the shorter one.
+/// Both sides read and write the covenants alike, and refuse each beginning of the shortest one.
 pub fn agree() {
-    for covenant in [register(), thousand()] {
+    for covenant in [register(), thousand(0), thousand(1)] {
         let bytes = encoded(&covenant);
         let read = turgamysk::covenant_read(&bytes, 0, usize::MAX);
         assert_eq!((read.number, read.kind), (0, covenant.kind.as_u8()));
@@ -90,7 +91,8 @@ pub fn accepting() -> Table {
     );
     for (label, covenant) in [
         ("32 + 4 + 200 + 32 bytes", register()),
-        ("1,000 empty", thousand()),
+        ("1,000 empty", thousand(0)),
+        ("1,000 of one byte", thousand(1)),
     ] {
         let bytes = encoded(&covenant);
         table.measure(
@@ -109,27 +111,32 @@ pub fn accepting() -> Table {
 }
 
 pub fn directory() -> Table {
-    let bytes = encoded(&thousand());
-    let mut directory = Directory::new();
     let mut table = Table::new(
         "Decoding a covenant into its directory",
         "items",
         vec![Goal(4.0)],
     );
-    table.measure(
-        "1,000 empty".to_string(),
-        vec![
-            Side::new("turgamysk", || {
-                black_box(turgamysk::covenant_decode(
-                    black_box(&bytes),
-                    black_box(&mut directory),
-                ));
-            }),
-            Side::new("hns-rs decode", || {
-                black_box(Covenant::decode(black_box(&bytes)).is_ok());
-            }),
-        ],
-    );
+    for (label, covenant) in [
+        ("1,000 empty", thousand(0)),
+        ("1,000 of one byte", thousand(1)),
+    ] {
+        let bytes = encoded(&covenant);
+        let mut directory = Directory::new();
+        table.measure(
+            label.to_string(),
+            vec![
+                Side::new("turgamysk", || {
+                    black_box(turgamysk::covenant_decode(
+                        black_box(&bytes),
+                        black_box(&mut directory),
+                    ));
+                }),
+                Side::new("hns-rs decode", || {
+                    black_box(Covenant::decode(black_box(&bytes)).is_ok());
+                }),
+            ],
+        );
+    }
     table
 }
 

@@ -149,14 +149,7 @@ pub extern "C" fn turgamysk_covenant_decode(
     ensures { λ _. ⌜ now (starts .exit) ≡ directoryOf (wholeCovenant (now (bytes .entry))) .starts ⌝ }
     ensures { λ _. ⌜ now (lens .exit) ≡ directoryOf (wholeCovenant (now (bytes .entry))) .lens ⌝ }
 {
-    let decoded = Covenant::decode(bytes);
-    let covenant = decoded.covenant;
-    let first = covenant.starts;
-    let long = covenant.lens;
-    *starts = first;
-    *lens = long;
-    let read = decoded.read;
-    covenant_answer(read)
+    covenant_answer(Covenant::decode_into(bytes, starts, lens))
 }
 
 #[no_mangle]

@@ -13,8 +13,8 @@ use Rattle.encoding.specs.Theorems.{Lent}
 use Rattle.covenants.specs.Covenant.{itemAt, headAt, Reading, covenantAt}
 use Rattle.covenants.specs.Items.{there, absent, found, nth, seekAt, directoryItem}
 use Rattle.covenants.specs.Paper.{listed, directoryOf}
+use Rattle.covenants.specs.Filling.{starts-of, lens-of}
 use Rattle.covenants.proofs.Moves.{item-read, head-read, covenant-accepted}
-use Rattle.covenants.proofs.Directory.{starts-of, lens-of}
 
 nth-none : (xs : List (ℕ × ℕ)) (k : ℕ) → length xs ≤ k → nth xs k ≡ absent
 unfolding nth

@@ -1,22 +1,17 @@
 -- A directory that is filled item by item: what stands in it, and what is left to read.
-use mathlib.Core.Path.{_≡_, refl, ap, sym, _∙_}
-use Prim.Native.Nat.{ℕ, suc, _+_, _-_, _≤_, _<_}
+use mathlib.Core.Path.{_≡_, refl, ap, ap₂, sym, _∙_}
+use Prim.Native.Nat.{ℕ, suc, _+_, _-_, _≤_, _<_, min}
 use native.Mathlib.Omega.{arith}
 use mathlib.Core.List.{List, [], _∷_, _++_, map, append-nil}
 use lib.ListN.{length, length-append, length-map, set, replicate}
 use lib.Seq.{set-append-seam, append-snoc}
-use Rattle.refusal.specs.Outcome.{Outcome, ok, err, then, manyAt}
+use Rattle.refusal.specs.Outcome.{Outcome, ok, err, then, past, manyAt}
 use Rattle.refusal.proofs.Outcomes.{never}
-use Rattle.covenants.specs.Covenant.{Reading, Said}
-use Rattle.covenants.specs.Paper.{covenantPaper, listed, decodedPaper, shown}
+use Rattle.covenants.specs.Covenant.{itemAt, headAt, Reading, Said, finished, opening, covenantAt, skimmed}
+use Rattle.covenants.specs.Paper.{listed, directoryOf, shown}
+use Rattle.covenants.specs.Filling.{starts-of, lens-of, kept, Filling}
 use Rattle.covenants.specs.declared.Covenant.{Covenant}
-use Rattle.covenants.specs.declared.decode.Decoded.{Decoded}
-
-abbrev pub starts-of : List (ℕ × ℕ) → List ℕ
-starts-of = map (λ (i : ℕ × ℕ). i .0)
-
-abbrev pub lens-of : List (ℕ × ℕ) → List ℕ
-lens-of = map (λ (i : ℕ × ℕ). i .1)
+use Rattle.covenants.proofs.Moves.{skim-body}
 
 -- a directory of 1,000 with one more number
 listed-more : (xs : List ℕ) (v : ℕ) → length xs < 1000 → set (listed xs) (length xs) v ≡ listed (xs ++ (v ∷ []))
@@ -35,28 +30,17 @@ map-snoc f [] x = refl
 map-snoc f (y ∷ xs) x = ap (λ r. f y ∷ r) (map-snoc f xs x)
 
 module _ (read : ℕ → Outcome (ℕ × ℕ)) where
-  -- after i of count items: those that were read stand in the directory, and what is left gives the rest of the answer
-  pub record Filling (start count from : ℕ) (starts lens : List ℕ) (at i : ℕ) : Type 0 where
-    pub bound : i ≤ count
-    pub few : count ≤ 1000
-    pub later : start ≤ at
-    pub done : List (ℕ × ℕ)
-    pub long : length done ≡ i
-    pub firsts : starts ≡ listed (starts-of done)
-    pub sizes : lens ≡ listed (lens-of done)
-    pub rest : then (manyAt read (count - i) at) (λ more end. ok (done ++ more) end) ≡ manyAt read count from
-
   -- nothing was read yet
-  pub begin : (start count from : ℕ) → start ≤ from → count ≤ 1000 → Filling start count from (listed []) (listed []) from 0
-  begin start count from h k =
+  pub begin : (start count from : ℕ) {starts lens : List ℕ} → start ≤ from → count ≤ 1000 → (starts ≡ listed []) × (lens ≡ listed []) → Filling read start count from starts lens from 0
+  begin start count from h k zeros =
       let z : count - 0 ≡ count = omega arith in
       record
-      { bound = omega arith; few = k; later = h; done = []; long = refl; firsts = refl; sizes = refl; rest = rw z (then-same (manyAt read count from)) }
+      { bound = omega arith; few = k; later = h; done = []; long = refl; firsts = zeros .0; sizes = zeros .1; rest = rw z (then-same (manyAt read count from)) }
 
-  module _ {start count from : ℕ} {starts lens : List ℕ} {at i : ℕ} (r : Filling start count from starts lens at i) where
+  module _ {start count from : ℕ} {starts lens : List ℕ} {at i : ℕ} (r : Filling read start count from starts lens at i) where
     -- the next item was read
     pub more : {part : ℕ × ℕ} {next : ℕ} → i < count → start ≤ next → read at ≡ ok part next
-        → Filling start count from (set starts i (part .0)) (set lens i (part .1)) next (i + 1)
+        → Filling read start count from (set starts i (part .0)) (set lens i (part .1)) next (i + 1)
     unfolding manyAt
     more {part} {next} h later e =
         let k : count - i ≡ suc (count - (i + 1)) = omega arith in
@@ -93,15 +77,80 @@ module _ (read : ℕ → Outcome (ℕ × ℕ)) where
         let k : count - i ≡ 0 = omega (arith, r .bound) in
         ap (λ l. ok l at) (sym (append-nil (r .done))) ∙ (rw k at (r .rest))
 
--- ---- what the answer of a decoder tells of the outcome
+    -- and the directory is theirs
+    abbrev pub Kept : Outcome Unit → List ℕ → List ℕ → Type 0
+    Kept o starts′ lens′ =
+        (o ≡ past (manyAt read count from))
+        × ((starts′ ≡ listed (starts-of (kept (manyAt read count from)))) × (lens′ ≡ listed (lens-of (kept (manyAt read count from)))))
 
-abbrev Told : Type 0
-Told = Outcome Said × Covenant
+    pub all-kept : count ≤ i → Kept (ok tt at) starts lens
+    all-kept h =
+        let e = ended h in
+        (ap past e, (r .firsts ∙ ap (λ o. listed (starts-of (kept o))) e, r .sizes ∙ ap (λ o. listed (lens-of (kept o))) e))
 
-pub found : (d : Decoded) (o : Outcome Reading) {x : Said} {p : ℕ} → decodedPaper d ≡ shown o → covenantPaper (d .read) ≡ ok x p → (c : Reading) × (o ≡ ok c p)
-found d (ok c q) {x} {p} e f = let h = ap (λ (t : Told). t .0) e in (c, ap (ok c) (cc))
-found d (err k vs q) e f = absurd (never f (ap (λ (t : Told). t .0) e))
+    pub none-kept : {k : ℕ} {vs : List ℕ} {p : ℕ} {starts′ lens′ : List ℕ} → i < count → read at ≡ err k vs p → (starts′ ≡ listed []) × (lens′ ≡ listed []) → Kept (err k vs p) starts′ lens′
+    none-kept h f zeros =
+        let e = stopped h f in
+        (ap past e, (zeros .0 ∙ ap (λ o. listed (starts-of (kept o))) e, zeros .1 ∙ ap (λ o. listed (lens-of (kept o))) e))
 
-pub refused : (d : Decoded) (o : Outcome Reading) {k : ℕ} {vs : List ℕ} {p : ℕ} → decodedPaper d ≡ shown o → covenantPaper (d .read) ≡ err k vs p → o ≡ err k vs p
-refused d (ok c q) e f = absurd (never (ap (λ (t : Told). t .0) e) f)
-refused d (err k vs q) e f = let h = ap (λ (t : Told). t .0) e in cc
+-- ---- the directory of a covenant is that of its items
+
+pub starts-kept : (o : Outcome (List (ℕ × ℕ))) (kind start : ℕ) → listed (starts-of (kept o)) ≡ directoryOf (then o (finished kind start)) .starts
+unfolding directoryOf
+starts-kept (ok items end) kind start = refl
+starts-kept (err k vs p) kind start = refl
+
+pub lens-kept : (o : Outcome (List (ℕ × ℕ))) (kind start : ℕ) → listed (lens-of (kept o)) ≡ directoryOf (then o (finished kind start)) .lens
+unfolding directoryOf
+lens-kept (ok items end) kind start = refl
+lens-kept (err k vs p) kind start = refl
+
+-- what a decoder says of an outcome, and both arrays that it leaves
+abbrev pub Tells : Outcome Reading → Outcome Said → List ℕ → List ℕ → Type 0
+Tells o said starts lens = (said ≡ skimmed o) × ((starts ≡ directoryOf o .starts) × (lens ≡ directoryOf o .lens))
+
+pub tells-same : {o o′ : Outcome Reading} {said : Outcome Said} {starts lens : List ℕ} → o ≡ o′ → Tells o said starts lens → Tells o′ said starts lens
+tells-same e t = rw (← e) t
+
+-- a refusal, and zeros
+pub tells-refused : {o : Outcome Reading} {k : ℕ} {vs : List ℕ} {p : ℕ} {starts lens : List ℕ} → o ≡ err k vs p → (starts ≡ listed []) × (lens ≡ listed []) → Tells o (err k vs p) starts lens
+unfolding directoryOf
+tells-refused e zeros = rw e (refl, zeros)
+
+-- a covenant from its head on
+pub tells-kept : (limit : ℕ) (s : List ℕ) (at : ℕ) {allowance : ℕ} → allowance ≡ min limit 1000009 → {head : ℕ × ℕ} {next : ℕ} → opening allowance s at (headAt allowance s at) ≡ ok head next
+    → {said : Outcome Said} {starts lens : List ℕ} → said ≡ skimmed (covenantAt limit s at)
+    → (starts ≡ listed (starts-of (kept (manyAt (itemAt allowance at s) (head .1) next)))) × (lens ≡ listed (lens-of (kept (manyAt (itemAt allowance at s) (head .1) next))))
+    → Tells (covenantAt limit s at) said starts lens
+tells-kept limit s at {allowance} capped {head} {next} e said both =
+    let items = manyAt (itemAt allowance at s) (head .1) next in
+    (said, rw (skim-body limit s at capped e) (both .0 ∙ starts-kept items (head .0) at, both .1 ∙ lens-kept items (head .0) at))
+
+-- ---- what is said of a covenant, and its directory, tell all of it
+
+module _ {starts lens : List ℕ} where
+  pub accepted-shown : (o : Outcome Reading) {kind count used p : ℕ} → ok (kind, count, used) p ≡ skimmed o → starts ≡ directoryOf o .starts → lens ≡ directoryOf o .lens
+      → (ok (kind, count, used) p, record { kind = kind; count = count; starts = starts; lens = lens }) ≡ shown o
+  unfolding directoryOf
+  accepted-shown (ok c q) {kind} {count} {used} {p} e f g =
+      let said : _≡_ {A = Said} (kind, count, used) (c .kind, length (c .items), c .used) = cc in
+      let k : kind ≡ c .kind = ap (λ (x : Said). x .0) said in
+      let n : count ≡ length (c .items) = ap (λ (x : Said). x .1) said in
+      ap₂ (λ (x : Outcome Said) (y : Covenant). (x, y)) e (rw (k, n, f, g))
+  accepted-shown (err k vs q) e f g = absurd (never refl e)
+
+  pub refused-shown : (o : Outcome Reading) {said : Outcome Said} {k : ℕ} {vs : List ℕ} {p : ℕ} → said ≡ err k vs p → said ≡ skimmed o → starts ≡ directoryOf o .starts → lens ≡ directoryOf o .lens
+      → (said, record { kind = 0; count = 0; starts = starts; lens = lens }) ≡ shown o
+  unfolding directoryOf
+  refused-shown (ok c q) h e f g = absurd (never e h)
+  refused-shown (err k vs q) h e f g = ap₂ (λ (x : Outcome Said) (y : Covenant). (x, y)) e (rw (f, g))
+
+-- ---- what is said of a covenant tells of the outcome
+
+pub found : (o : Outcome Reading) {x : Said} {p : ℕ} → skimmed o ≡ ok x p → (c : Reading) × (o ≡ ok c p)
+found (ok c q) {x} {p} e = let h : q ≡ p = cc in (c, ap (ok c) h)
+found (err k vs q) e = absurd (never e refl)
+
+pub refused : (o : Outcome Reading) {k : ℕ} {vs : List ℕ} {p : ℕ} → skimmed o ≡ err k vs p → o ≡ err k vs p
+refused (ok c q) e = absurd (never refl e)
+refused (err k vs q) e = cc

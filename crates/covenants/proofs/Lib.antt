@@ -1,3 +1,4 @@
+pub mod OneByte
 pub mod Moves
 pub mod Directory
 pub mod Places
@@ -10,3 +11,4 @@ pub mod Agree
 pub mod Theorems
 pub mod Same
 pub mod One
+pub mod Parts

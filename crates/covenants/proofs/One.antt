@@ -12,7 +12,7 @@ use Rattle.covenants.specs.Covenant.{covenantAt, wholeCovenant, skimmed}
 use Rattle.covenants.specs.Written.{sizeAnswer, encodeAnswer, encodeContent}
 use Rattle.covenants.specs.Items.{directoryItem, seekAt, wide, numberIn}
 use Rattle.covenants.specs.Run.{runSaid, runOf, stepOf}
-use Rattle.covenants.specs.Paper.{covenantPaper, decodedPaper, shown, spotPaper, itemU8Paper, itemU32Paper, itemU64Paper, nameHashPaper, shownHash, stepPaper, runEndPaper, runStart}
+use Rattle.covenants.specs.Paper.{covenantPaper, directoryOf, decodedPaper, shown, spotPaper, itemU8Paper, itemU32Paper, itemU64Paper, nameHashPaper, shownHash, stepPaper, runEndPaper, runStart}
 use Rattle.covenants.proofs.Same.{covenant-same, decoded-same, spot-same, item-u8-same, item-u32-same, item-u64-same, item-name-hash-same, step-same, run-end-same}
 use Rattle.covenants.specs.declared.ReadCovenant.{ReadCovenant}
 use Rattle.covenants.specs.declared.decode.Decoded.{Decoded}
@@ -49,6 +49,13 @@ decode-from-one s at e f = decoded-same (one e f)
 
 pub decode-one : (s : List ℕ) {d d′ : Decoded} → decodedPaper d ≡ shown (wholeCovenant s) → decodedPaper d′ ≡ shown (wholeCovenant s) → d ≡ d′
 decode-one s e f = decoded-same (one e f)
+
+-- what `decode_into` says: the answer, and both lent arrays
+abbrev Lends : List ℕ → ReadCovenant → List ℕ → List ℕ → Type 0
+Lends s r starts lens = (covenantPaper r ≡ skimmed (wholeCovenant s)) × (starts ≡ directoryOf (wholeCovenant s) .starts) × (lens ≡ directoryOf (wholeCovenant s) .lens)
+
+pub decode-into-one : (s : List ℕ) {r r′ : ReadCovenant} {a a′ b b′ : List ℕ} → Lends s r a b → Lends s r′ a′ b′ → (r ≡ r′) × (a ≡ a′) × (b ≡ b′)
+decode-into-one s e f = (covenant-same (one (e .0) (f .0)), one (e .1) (f .1), one (e .2) (f .2))
 
 -- ---- an item at a width
 

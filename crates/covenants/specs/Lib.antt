@@ -4,4 +4,5 @@ pub mod Written
 pub mod Items
 pub mod Run
 pub mod Paper
+pub mod Filling
 pub mod Theorems

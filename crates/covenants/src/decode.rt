@@ -5,17 +5,19 @@ use crate::ReadHead;
 use crate::capped;
 use crate::item;
 use crate::opened;
+use crate::short::short_entries;
 use crate::too_large;
 use encoding::read::Cursor;
 use encoding::read::Moved;
 use encoding::read::ReadSpan;
-use refusal::Stop;
 ghost use mathlib.Core.Path.{_≡_};
+ghost use mathlib.Core.List.{[]};
 ghost use Prim.Native.Nat.{_≤_};
-ghost use Rattle.refusal.specs.Outcome.{then, manyAt};
-ghost use Rattle.refusal.specs.Paper.{stopped};
-ghost use Rattle.covenants.specs.Covenant.{itemAt, finished, covenantAt, wholeCovenant};
-ghost use Rattle.covenants.specs.Paper.{decodedPaper, shown};
+ghost use Rattle.refusal.specs.Outcome.{Outcome, past, manyAt};
+ghost use Rattle.encoding.specs.Paper.{movedPaper};
+ghost use Rattle.covenants.specs.Covenant.{Reading, itemAt, covenantAt, wholeCovenant, skimmed};
+ghost use Rattle.covenants.specs.Paper.{covenantPaper, listed, directoryOf, decodedPaper, shown};
+ghost use Rattle.covenants.specs.Filling.{starts-of, lens-of, kept};
 
 // The answer of a decoder: what was read, and the covenant, all zeros where it was refused.
 pub struct Decoded {
@@ -23,60 +25,119 @@ pub struct Decoded {
     pub covenant: Covenant,
 }
 
-// Nothing but the refusal.
-fn refused(stop: Stop) -> Decoded
-    ensures { λ d. ⌜ decodedPaper d ≡ shown (stopped stop) ⌝ }
+// Nothing but zeros.
+fn clear(starts: &mut [usize; 1000], lens: &mut [usize; 1000])
+    ensures { λ _. ⌜ (now (starts .exit) ≡ listed []) × (now (lens .exit) ≡ listed []) ⌝ }
 {
-    Decoded {
-        read: ReadCovenant::Refused(stop),
-        covenant: Covenant {
-            kind: 0,
-            count: 0,
-            starts: [0; 1000],
-            lens: [0; 1000],
-        },
-    }
+    *starts = [0; 1000];
+    *lens = [0; 1000];
 }
 
 // The items of a covenant that began at `start`, each into its place of the directory.
-fn fill(from: Cursor, s: &[u8], start: usize, allowance: usize, kind: u8, count: usize) -> Decoded
+fn fill(
+    from: Cursor,
+    s: &[u8],
+    start: usize,
+    allowance: usize,
+    count: usize,
+    starts: &mut [usize; 1000],
+    lens: &mut [usize; 1000],
+) -> Moved
     requires { ⌜ (start ≤ from .position) × (count ≤ 1000) ⌝ }
-    ensures { λ d. ⌜ decodedPaper d ≡ shown (then (manyAt (itemAt allowance start (now (s .entry))) count (from .position)) (finished kind start)) ⌝ }
+    ensures { λ r. ⌜ movedPaper r ≡ past (manyAt (itemAt allowance start (now (s .entry))) count (from .position)) ⌝ }
+    ensures { λ _. ⌜ now (starts .exit) ≡ listed (starts-of (kept (manyAt (itemAt allowance start (now (s .entry))) count (from .position)))) ⌝ }
+    ensures { λ _. ⌜ now (lens .exit) ≡ listed (lens-of (kept (manyAt (itemAt allowance start (now (s .entry))) count (from .position)))) ⌝ }
 {
-    let mut starts = [0usize; 1000];
-    let mut lens = [0usize; 1000];
-    let mut c = from;
-    let mut i: usize = 0;
-    while i < count {
-        match item(c, s, start, allowance) {
+    clear(starts, lens);
+    let mut passed: usize = 0;
+    let mut at = from.position;
+    loop {
+        let short = short_entries(s, start, allowance, count, passed, at, starts, lens);
+        if count <= short.passed {
+            return Moved::To(Cursor { position: short.at });
+        }
+        match item(Cursor { position: short.at }, s, start, allowance) {
             ReadSpan::Span {
-                start: at,
+                start: first,
                 len,
                 next,
             } => {
-                starts[i] = at;
+                let i = short.passed;
+                starts[i] = first;
                 lens[i] = len;
-                c = next;
+                passed = i + 1;
+                at = next.position;
             }
             ReadSpan::Refused(stop) => {
-                return refused(stop);
+                clear(starts, lens);
+                return Moved::Refused(stop);
             }
         }
-        i += 1;
     }
-    let used = c.position - start;
-    Decoded {
-        read: ReadCovenant::Accepted {
+}
+
+// A covenant under an allowance, its directory in two lent arrays.
+fn decode_at(
+    c: Cursor,
+    s: &[u8],
+    limit: usize,
+    starts: &mut [usize; 1000],
+    lens: &mut [usize; 1000],
+) -> ReadCovenant
+    ensures { λ r. ⌜ covenantPaper r ≡ skimmed (covenantAt limit (now (s .entry)) (c .position)) ⌝ }
+    ensures { λ _. ⌜ now (starts .exit) ≡ directoryOf (covenantAt limit (now (s .entry)) (c .position)) .starts ⌝ }
+    ensures { λ _. ⌜ now (lens .exit) ≡ directoryOf (covenantAt limit (now (s .entry)) (c .position)) .lens ⌝ }
+{
+    let allowance = capped(limit);
+    match opened(c, s, allowance) {
+        ReadHead::Head { kind, count, next } => {
+            match fill(next, s, c.position, allowance, count, starts, lens) {
+                Moved::To(end) => {
+                    let used = end.position - c.position;
+                    ReadCovenant::Accepted {
+                        kind,
+                        count,
+                        used,
+                        next: end,
+                    }
+                }
+                Moved::Refused(stop) => ReadCovenant::Refused(stop),
+            }
+        }
+        ReadHead::Refused(stop) => {
+            clear(starts, lens);
+            ReadCovenant::Refused(stop)
+        }
+    }
+}
+
+// What was read, beside the covenant that it says, with this directory.
+fn assembled(read: ReadCovenant, starts: [usize; 1000], lens: [usize; 1000]) -> Decoded
+    ensures { λ d. ⌜ ((o : Outcome Reading) → covenantPaper read ≡ skimmed o → starts ≡ directoryOf o .starts → lens ≡ directoryOf o .lens → decodedPaper d ≡ shown o) ⌝ }
+{
+    match read {
+        ReadCovenant::Accepted {
             kind,
             count,
-            used,
-            next: c,
+            used: _,
+            next: _,
+        } => Decoded {
+            read,
+            covenant: Covenant {
+                kind,
+                count,
+                starts,
+                lens,
+            },
         },
-        covenant: Covenant {
-            kind,
-            count,
-            starts,
-            lens,
+        ReadCovenant::Refused(_) => Decoded {
+            read,
+            covenant: Covenant {
+                kind: 0,
+                count: 0,
+                starts,
+                lens,
+            },
         },
     }
 }
@@ -86,13 +147,10 @@ impl Covenant {
     pub fn decode_from_with_limit(c: Cursor, s: &[u8], limit: usize) -> Decoded
         ensures { λ d. ⌜ decodedPaper d ≡ shown (covenantAt limit (now (s .entry)) (c .position)) ⌝ }
     {
-        let allowance = capped(limit);
-        match opened(c, s, allowance) {
-            ReadHead::Head { kind, count, next } => {
-                fill(next, s, c.position, allowance, kind, count)
-            }
-            ReadHead::Refused(stop) => refused(stop),
-        }
+        let mut starts = [0usize; 1000];
+        let mut lens = [0usize; 1000];
+        let read = decode_at(c, s, limit, &mut starts, &mut lens);
+        assembled(read, starts, lens)
     }
 
     pub fn decode_from(c: Cursor, s: &[u8]) -> Decoded
@@ -101,15 +159,27 @@ impl Covenant {
         Covenant::decode_from_with_limit(c, s, Covenant::MAX_ENCODED_SIZE)
     }
 
-    // A covenant that is the whole input.
-    pub fn decode(s: &[u8]) -> Decoded
-        ensures { λ d. ⌜ decodedPaper d ≡ shown (wholeCovenant (now (s .entry))) ⌝ }
+    // A covenant that is the whole input, its directory in two lent arrays.
+    pub fn decode_into(
+        s: &[u8],
+        starts: &mut [usize; 1000],
+        lens: &mut [usize; 1000],
+    ) -> ReadCovenant
+        ensures { λ r. ⌜ covenantPaper r ≡ skimmed (wholeCovenant (now (s .entry))) ⌝ }
+        ensures { λ _. ⌜ now (starts .exit) ≡ directoryOf (wholeCovenant (now (s .entry))) .starts ⌝ }
+        ensures { λ _. ⌜ now (lens .exit) ≡ directoryOf (wholeCovenant (now (s .entry))) .lens ⌝ }
     {
         if Covenant::MAX_ENCODED_SIZE < s.len() {
-            return refused(too_large(s.len(), Covenant::MAX_ENCODED_SIZE, 0));
+            clear(starts, lens);
+            return ReadCovenant::Refused(too_large(s.len(), Covenant::MAX_ENCODED_SIZE, 0));
         }
-        let d = Covenant::decode_from(Cursor { position: 0 }, s);
-        let read = d.read;
+        let read = decode_at(
+            Cursor { position: 0 },
+            s,
+            Covenant::MAX_ENCODED_SIZE,
+            starts,
+            lens,
+        );
         match read {
             ReadCovenant::Accepted {
                 kind: _,
@@ -117,10 +187,23 @@ impl Covenant {
                 used: _,
                 next,
             } => match next.finish(s) {
-                Moved::To(_) => d,
-                Moved::Refused(stop) => refused(stop),
+                Moved::To(_) => read,
+                Moved::Refused(stop) => {
+                    clear(starts, lens);
+                    ReadCovenant::Refused(stop)
+                }
             },
-            ReadCovenant::Refused(_) => d,
+            ReadCovenant::Refused(_) => read,
         }
+    }
+
+    // A covenant that is the whole input.
+    pub fn decode(s: &[u8]) -> Decoded
+        ensures { λ d. ⌜ decodedPaper d ≡ shown (wholeCovenant (now (s .entry))) ⌝ }
+    {
+        let mut starts = [0usize; 1000];
+        let mut lens = [0usize; 1000];
+        let read = Covenant::decode_into(s, &mut starts, &mut lens);
+        assembled(read, starts, lens)
     }
 }

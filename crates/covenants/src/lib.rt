@@ -3,8 +3,10 @@ pub mod decode;
 pub mod items;
 pub mod kind;
 pub mod run;
+mod short;
 pub mod write;
 
+use crate::short::short_items;
 use encoding::read::Cursor;
 use encoding::read::Moved;
 use encoding::read::ReadSize;
@@ -175,22 +177,25 @@ pub(crate) fn pass_items(
     requires { ⌜ start ≤ from .position ⌝ }
     ensures { λ r. ⌜ movedPaper r ≡ past (manyAt (itemAt allowance start (now (s .entry))) count (from .position)) ⌝ }
 {
-    let mut c = from;
-    let mut i: usize = 0;
-    while i < count {
-        match item(c, s, start, allowance) {
+    let mut passed: usize = 0;
+    let mut at = from.position;
+    loop {
+        let short = short_items(s, start, allowance, count, passed, at);
+        if count <= short.passed {
+            return Moved::To(Cursor { position: short.at });
+        }
+        match item(Cursor { position: short.at }, s, start, allowance) {
             ReadSpan::Span {
                 start: _,
                 len: _,
                 next,
             } => {
-                c = next;
+                passed = short.passed + 1;
+                at = next.position;
             }
             ReadSpan::Refused(stop) => {
                 return Moved::Refused(stop);
             }
         }
-        i += 1;
     }
-    Moved::To(c)
 }

@@ -5,12 +5,13 @@ use native.Mathlib.Omega.{arith}
 use mathlib.Core.List.{List, [], _∷_, _++_}
 use mathlib.Core.Bool.{Bool, true, false}
 use lib.ListN.{length, length-append}
-use lib.Dec.{ltb}
-use borrow.Author.Tests.{le-ltb, lt-ltb}
+use lib.Dec.{ltb, leb}
+use borrow.Author.Tests.{le-ltb, lt-ltb, leb-true}
 use Rattle.words.specs.Words.{bytes}
 use Rattle.words.specs.Buffers.{pick, over, fits, laid}
 use Rattle.words.proofs.Over.{room, no-room, laid-over, length-over, over-append}
 use Rattle.refusal.specs.Outcome.{Wrote, wrote, refused}
+use Rattle.refusal.proofs.Outcomes.{never-both}
 use Rattle.encoding.specs.Wire.{compact, compactSize, varbytes, putAnswer}
 
 pub length-compact : (v : ℕ) → length (compact v) ≡ compactSize v
@@ -82,3 +83,14 @@ varbytes-over at bs d prefix p h {d₁} e f =
     f ∙ laid-over (at + prefix) bs d₁ (length bs) refl (omega arith)
     ∙ ap₂ (λ (n : ℕ) (l : List ℕ). over (at + n) bs l) (sym long) e
     ∙ over-append at (compact (length bs)) bs d (omega arith)
+
+-- what was written lies within the destination
+pub written-within : (at : ℕ) (bs d : List ℕ) {m : ℕ} → putAnswer at bs d ≡ wrote m → at + m ≤ length d
+unfolding putAnswer fits
+written-within at bs d {m} = go (leb (at + length bs) (length d)) refl
+  where
+    go : (b : Bool) → leb (at + length bs) (length d) ≡ b → pick b (wrote (length bs)) (refused 29 (length bs ∷ [])) ≡ wrote m → at + m ≤ length d
+    go true t e =
+        let k : length bs ≡ m = cc in
+        omega (arith, leb-true (at + length bs) (length d) t)
+    go false t e = absurd (never-both e refl)

@@ -5,10 +5,10 @@ use native.Mathlib.Omega.{arith}
 use native.Mathlib.Nat.{le-refl}
 use mathlib.Core.List.{List}
 use mathlib.Core.Bool.{Bool, true, false}
-use lib.ListN.{length, take, drop, length-drop}
-use lib.Seq.{length-take-le}
+use lib.ListN.{length, take, drop, getD, length-drop}
+use lib.Seq.{length-take-le, drop-cons}
 use lib.Dec.{ltb, eqb}
-use borrow.Author.Tests.{ltb-false}
+use borrow.Author.Tests.{lt-ltb, ltb-false}
 use Rattle.words.specs.Words.{le, Bytes}
 use Rattle.words.specs.Buffers.{pick, laid}
 use Rattle.words.proofs.Le.{le-under}
@@ -123,3 +123,18 @@ array-refused n r (err k′ vs′ q) {m} {k} {vs} {p} e f g =
     let b : vs′ ≡ vs = cc in
     let c : q ≡ p = cc in
     rw (a, b, c)
+
+-- a byte is the number that it spells
+module _ (s : List ℕ) (at : ℕ) (big : length s < 2 ^ 64) (h : at < length s) where
+  byte-spelled : le (take 1 (drop at s)) ≡ getD s at 0
+  unfolding le
+  byte-spelled = rw (drop-cons s at 0 h) (omega arith)
+
+  pub byte-read : fixedAt 1 s at ≡ ok (getD s at 0) (at + 1)
+  unfolding fixedAt bytesAt
+  byte-read = rw (slice.within 1 s at (omega arith) (omega arith)) (ap (λ v. ok v (at + 1)) byte-spelled)
+
+  -- and a compact size, below 253
+  pub compact-byte : getD s at 0 < 253 → compactAt s at ≡ ok (getD s at 0) (at + 1)
+  unfolding compactAt
+  compact-byte k = rw (byte-read, lt-ltb _ _ k)

@@ -1,99 +1,16 @@
--- Bytes compared one by one; the item that is found; two items that agree; name and start, item by item.
+-- Two items that agree; name and start, item by item.
 use mathlib.Core.Path.{_≡_, refl, ap, sym, _∙_}
-use Prim.Native.Nat.{ℕ, zero, suc, _+_, _*_, _^_, _≤_, _<_}
+use Prim.Native.Nat.{ℕ, zero, suc, _+_, _*_, _≤_, _<_}
 use native.Mathlib.Omega.{arith}
 use mathlib.Core.List.{List, [], _∷_}
 use mathlib.Core.Bool.{Bool, true, false}
-use lib.ListN.{length, getD, length-map}
-use lib.Seq.{drop-cons}
+use lib.ListN.{length, getD}
 use lib.Dec.{eqb}
 use borrow.Author.Tests.{eq-eqb, ne-eqb}
 use Rattle.words.specs.Buffers.{pick}
 use Rattle.words.specs.Sameness.{same}
-use Rattle.words.proofs.Le.{part-long}
-use Rattle.refusal.specs.Outcome.{ok}
-use Rattle.covenants.specs.Covenant.{Reading, covenantAt, bytesIn, contents}
-use Rattle.covenants.specs.Items.{there, absent, nth, seekAt}
-use Rattle.covenants.proofs.Agree.{seek-finds, nth-inside}
-use Rattle.sheets.specs.Sheet.{itemsFrom}
 use Rattle.links.specs.Rules.{Step, passes, breaks, after, check, agree, nameAndStart}
 use Rattle.links.specs.Workers.{widthOf}
-
--- ---- bytes, one by one
-
-module _ (s t : List ℕ) where
-  pub same-more : {a a′ b b′ n n′ : ℕ} → a < length s → b < length t → a′ ≡ suc a → b′ ≡ suc b → n′ ≡ suc n → getD s a 0 ≡ getD t b 0
-      → same (bytesIn s (a, n′)) (bytesIn t (b, n′)) ≡ same (bytesIn s (a′, n)) (bytesIn t (b′, n))
-  unfolding same
-  same-more {a} {b = b} h k p q r e = rw (p, q, r, drop-cons s a 0 h, drop-cons t b 0 k, eq-eqb _ _ e)
-
-  pub same-not : {a b n n′ : ℕ} → a < length s → b < length t → n′ ≡ suc n → (getD s a 0 ≡ getD t b 0 → ⊥) → same (bytesIn s (a, n′)) (bytesIn t (b, n′)) ≡ false
-  unfolding same
-  same-not {a} {b} h k r e = rw (r, drop-cons s a 0 h, drop-cons t b 0 k, ne-eqb _ _ e)
-
-  pub same-none : (a b : ℕ) {n : ℕ} → n ≡ 0 → same (bytesIn s (a, n)) (bytesIn t (b, n)) ≡ true
-  unfolding same
-  same-none a b p = rw p
-
--- ---- the k-th item, by its place
-
-nth-there : (s : List ℕ) (xs : List (ℕ × ℕ)) (k : ℕ) {part : ℕ × ℕ} → nth xs k ≡ there part → getD (contents s xs) k [] ≡ bytesIn s part
-unfolding nth
-nth-there s [] k e = absurd (let z : _≡_ {A = ℕ} 0 1 = cc in omega arith)
-nth-there s (x ∷ xs) zero {part} e = let p : x ≡ part = cc in ap (bytesIn s) p
-nth-there s (x ∷ xs) (suc k) e = nth-there s xs k e
-
-nth-absent : (s : List ℕ) (xs : List (ℕ × ℕ)) (k : ℕ) → nth xs k ≡ absent → getD (contents s xs) k [] ≡ []
-unfolding nth
-nth-absent s [] k e = refl
-nth-absent s (x ∷ xs) zero e = absurd (let z : _≡_ {A = ℕ} 0 1 = cc in omega arith)
-nth-absent s (x ∷ xs) (suc k) e = nth-absent s xs k e
-
-nth-long : (xs : List (ℕ × ℕ)) (k : ℕ) {part : ℕ × ℕ} → nth xs k ≡ there part → k < length xs
-unfolding nth
-nth-long [] k e = absurd (let z : _≡_ {A = ℕ} 0 1 = cc in omega arith)
-nth-long (x ∷ xs) zero e = omega arith
-nth-long (x ∷ xs) (suc k) e = let h = nth-long xs k e in omega arith
-
-nth-short : (xs : List (ℕ × ℕ)) (k : ℕ) → nth xs k ≡ absent → length xs ≤ k
-unfolding nth
-nth-short [] k e = omega arith
-nth-short (x ∷ xs) zero e = absurd (let z : _≡_ {A = ℕ} 0 1 = cc in omega arith)
-nth-short (x ∷ xs) (suc k) e = let h = nth-short xs k e in omega arith
-
-module _ (s : List ℕ) (at k : ℕ) {c : Reading} {end : ℕ} (reads : covenantAt 1000009 s at ≡ ok c end) where
-  items-are : itemsFrom s at ≡ contents s (c .items)
-  unfolding itemsFrom
-  items-are = rw reads
-
-  items-long : length (itemsFrom s at) ≡ length (c .items)
-  items-long = ap length items-are ∙ length-map (c .items) (bytesIn s)
-
-  pub item-counted : {part : ℕ × ℕ} → seekAt s at k ≡ there part → k < length (itemsFrom s at)
-  item-counted e = let h = nth-long (c .items) k (sym (seek-finds s at k reads) ∙ e) in omega (arith, items-long)
-
-  pub item-few : seekAt s at k ≡ absent → length (itemsFrom s at) ≤ k
-  item-few e = let h = nth-short (c .items) k (sym (seek-finds s at k reads) ∙ e) in omega (arith, items-long)
-
-  pub item-there : {a n : ℕ} → seekAt s at k ≡ there (a, n) → getD (itemsFrom s at) k [] ≡ bytesIn s (a, n)
-  item-there e = ap (λ xs. getD xs k []) items-are ∙ nth-there s (c .items) k (sym (seek-finds s at k reads) ∙ e)
-
-  pub item-inside : {a n : ℕ} → length s < 2 ^ 64 → seekAt s at k ≡ there (a, n) → a + n ≤ length s
-  item-inside big e = nth-inside s at k big reads (sym (seek-finds s at k reads) ∙ e)
-
-  pub item-fits : {a n width : ℕ} → length s < 2 ^ 64 → n ≡ width → seekAt s at k ≡ there (a, n) → (a + width ≤ length s) × (getD (itemsFrom s at) k [] ≡ bytesIn s (a, width))
-  item-fits {a} {n} {width} big w e = (omega (arith, item-inside big e), item-there e ∙ ap (λ (m : ℕ). bytesIn s (a, m)) w)
-
-  pub item-none : {width : ℕ} → 0 < width → seekAt s at k ≡ absent → length (getD (itemsFrom s at) k []) ≡ width → ⊥
-  item-none h e g =
-      let x : getD (itemsFrom s at) k [] ≡ [] = ap (λ xs. getD xs k []) items-are ∙ nth-absent s (c .items) k (sym (seek-finds s at k reads) ∙ e) in
-      let y : length (getD (itemsFrom s at) k []) ≡ 0 = ap length x in
-      omega arith
-
-  pub item-other : {a n width : ℕ} → length s < 2 ^ 64 → (n ≡ width → ⊥) → seekAt s at k ≡ there (a, n) → length (getD (itemsFrom s at) k []) ≡ width → ⊥
-  item-other {a} {n} big h e g =
-      let y : length (getD (itemsFrom s at) k []) ≡ n = ap length (item-there e) ∙ part-long s a n (item-inside big e) in
-      h (omega arith)
 
 -- ---- two items that agree
 

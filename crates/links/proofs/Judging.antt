@@ -1,17 +1,14 @@
 -- A commitment that is opened; the address that a transfer names; the row of a spent kind.
-use mathlib.Core.Path.{_≡_, refl, ap, sym, _∙_}
-use Prim.Native.Nat.{ℕ, _+_, _≤_, _<_}
-use native.Mathlib.Omega.{arith}
+use mathlib.Core.Path.{_≡_, refl}
+use Prim.Native.Nat.{ℕ, _≤_, _<_}
 use mathlib.Core.List.{List, [], _∷_}
 use mathlib.Core.Bool.{Bool, true, false, _&&_}
 use lib.ListN.{length, getD}
-use lib.Seq.{drop-cons, take-length}
 use lib.Dec.{eqb}
 use borrow.Author.Tests.{lt-ltb, le-ltb, le-leb, lt-leb, eq-eqb, ne-eqb}
 use Rattle.words.specs.Buffers.{pick}
 use Rattle.words.specs.Sameness.{same}
 use Rattle.names.specs.Blind.{blindOf}
-use Rattle.covenants.specs.Covenant.{bytesIn}
 use Rattle.covenants.specs.Items.{Maybe}
 use Rattle.sheets.specs.Sheet.{Output}
 use Rattle.links.specs.Rules.{passes, breaks, check, oneOf, committed, destination, bidRule, revealRule, ownedRule, transferRule, freeRule, unknownRule, paired, rule}
@@ -25,14 +22,6 @@ one-of-one k x = go (eqb k x)
     go : (t : Bool) → t ≡ pick t true false
     go true = refl
     go false = refl
-
--- an array of 32 bytes is its own part
-pub own-part : (h : List ℕ) → length h ≡ 32 → bytesIn h (0, 32) ≡ h
-own-part h l = rw (← l) (take-length h)
-
--- the byte of a part of one
-pub first-byte : (s : List ℕ) (a : ℕ) → a + 1 ≤ length s → getD (bytesIn s (a, 1)) 0 0 ≡ getD s a 0
-first-byte s a h = rw (drop-cons s a 0 (omega arith))
 
 module _ (i : ℕ) (spent made : Output) where
   -- ---- a commitment

@@ -22,9 +22,9 @@ ghost use Rattle.covenants.specs.Covenant.{bytesIn};
 ghost use Rattle.covenants.specs.Items.{there};
 ghost use Rattle.covenants.specs.Kind.{isName};
 ghost use Rattle.sheets.specs.Sheet.{outputOf};
+ghost use Rattle.links.specs.Rules as rules;
 ghost use Rattle.links.specs.Rules.{passes, breaks, after, check, oneOf, sameAddress, nameAndStart, committed, bidRule, revealRule, ownedRule, transferRule, rule};
 ghost use Rattle.links.specs.Paper.{stepPaper, partnerOf, Standing, Partnered};
-ghost use Rattle.links.specs.Rules as rules;
 ghost use Rattle.links.specs.Workers.{Readable, widthOf, Sizes, Pairs, namedAddress, rowOf, rowRule, Alone};
 
 // An input passes, and its partner is linked or not; or it breaks a rule.
@@ -115,6 +115,7 @@ fn width_of(k: usize) -> usize
     4
 }
 
+// Unequal items: 16 for item 0, 17 for item 1.
 fn mismatch(input: usize, k: usize) -> Refusal
     requires { ⌜ k < 2 ⌝ }
     ensures { λ r. ⌜ (numberOf r ≡ k + 16) × (carried r ≡ input ∷ []) ⌝ }
@@ -178,6 +179,7 @@ fn same_address(s: &[u8], a: Place, t: &[u8], b: Place) -> bool
     same_part(s, a.start, a.size, t, b.start, b.size)
 }
 
+// 14, with both kinds.
 fn invalid_transition(input: usize, spent: Place, made: Place) -> Step
     ensures { λ r. ⌜ stepPaper r ≡ breaks 14 (input ∷ spent .kind ∷ made .kind ∷ []) ⌝ }
 {
@@ -237,6 +239,7 @@ fn commitment(tx: &[u8], coins: &[u8], input: usize, spent: Place, made: Place) 
     Step::Breaks(Refusal::BlindCommitmentMismatch { input })
 }
 
+// Bid.
 fn bid_row(tx: &[u8], coins: &[u8], input: usize, spent: Place, made: Place) -> Step
     requires { ⌜ Standing (now coins) spent × Standing (now tx) made ⌝ }
     ensures { λ r. ⌜ stepPaper r ≡ bidRule input (outputOf (now (coins .entry)) spent) (outputOf (now (tx .entry)) made) ⌝ }
@@ -388,6 +391,7 @@ fn keeps(to: u8) -> bool
     to == kind::REVOKE
 }
 
+// Transfer.
 fn transfer_row(tx: &[u8], coins: &[u8], input: usize, spent: Place, made: Place) -> Step
     requires { ⌜ Standing (now coins) spent × Standing (now tx) made ⌝ }
     ensures { λ r. ⌜ stepPaper r ≡ transferRule input (outputOf (now (coins .entry)) spent) (outputOf (now (tx .entry)) made) ⌝ }
@@ -468,6 +472,7 @@ fn row_of(from: u8) -> TableRow
     }
 }
 
+// An input with its partner, by the row of its spent kind.
 fn pair_row(
     tx: &[u8],
     coins: &[u8],
@@ -497,7 +502,7 @@ fn missing(input: usize, kind: u8) -> Step
     Step::Breaks(Refusal::MissingLinkedOutput { input, kind })
 }
 
-// An input without a partner, by its spent kind and the row of that.
+// An input without a partner, by its spent kind and the row of that kind.
 fn lone_row(input: usize, kind: u8, from: TableRow) -> Step
     ensures { λ r. ⌜ Alone input kind from (stepPaper r) ⌝ }
 {

@@ -6,7 +6,7 @@ use mathlib.Core.Logic.{⊎-elim}
 use mathlib.Core.List.{List, [], _∷_, _++_, List·Memᴰ, List·Memᴰ·not-nil, List·Memᴰ·cases-cons}
 use lib.ListN.{length}
 use Rattle.refusal.specs.Outcome.{Outcome, ok, err, then, manyAt, past}
-use Rattle.refusal.proofs.Outcomes.{then-ok}
+use Rattle.refusal.proofs.Outcomes.{then-ok, past-then}
 
 module _ {A : Type 0} (read : ℕ → Outcome A) where
   -- as many as were asked for
@@ -118,3 +118,8 @@ module _ {A : Type 0} (read : ℕ → Outcome A) where
       (λ (h : x ≡ w .first). (from, w .next, w .here ∙ ap (λ y. ok y (w .next)) (sym h)))
       (λ (h : List·Memᴰ x (w .others)). many-somewhere n (w .next) (w .rest) h)
       (List·Memᴰ·cases-cons (subst (λ l. List·Memᴰ x l) (w .split) m))
+
+-- the first of several reads is passed
+pub past-first : {A : Type 0} (read : ℕ → Outcome A) {n n′ at next : ℕ} {x : A} → n′ ≡ suc n → read at ≡ ok x next → past (manyAt read n′ at) ≡ past (manyAt read n next)
+unfolding manyAt
+past-first read {n} {n′} {at} {next} {x} p e = rw (p, e) (past-then (manyAt read n next) (λ xs. x ∷ xs))

@@ -6,25 +6,12 @@ ghost use mathlib.Core.Path.{_≡_};
 ghost use mathlib.Core.Bool.{true};
 ghost use Prim.Native.Nat.{_≤_};
 ghost use lib.ListN.{length};
-ghost use Rattle.io.specs.Counts.{Counts};
 use crate::compare::judge;
 use crate::vectors::Function;
 use crate::vectors::head;
+use files::load;
 use libc::STDOUT_FILENO;
 use words::load::load_u64;
-
-// The file's bytes at the start of `buf`; none where it cannot be opened.
-fn load(path: &[u8], buf: &mut [u8]) -> usize
-    ensures { λ r. ⌜ Counts r (now (buf .exit)) ⌝ }
-{
-    let fd = os::open_read(path);
-    if fd < 0 {
-        return 0;
-    }
-    let n = io::read_full(fd, buf);
-    libc::close(fd);
-    n
-}
 
 fn say(name: &[u8], before: &[u8], number: u64, after: &[u8]) {
     io::write_all(STDOUT_FILENO, name);

@@ -4,3 +4,4 @@ pub mod Whole
 pub mod Viewing
 pub mod Same
 pub mod One
+pub mod Items

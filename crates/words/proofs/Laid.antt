@@ -29,3 +29,7 @@ both {d} {d₁} {d₂} {at} {p} {q} {xs} {ys} room a b =
 -- n bytes that were asked to be laid where there is room for them
 pub laid-there : (d : List ℕ) (at : ℕ) (bs : List ℕ) (n : ℕ) {end : ℕ} {d′ : List ℕ} → length bs ≡ n → at + n ≤ length d → end ≡ at + n → d′ ≡ laid at bs d → Laid d at bs d′ end
 laid-there d at bs n l h p e = record { ends = omega (arith, l, p); holds = e ∙ laid-over at bs d n l h }
+
+-- one write after another, where the end of both is within the bytes
+pub and-then : {d d₁ d₂ : List ℕ} {at p q : ℕ} {xs ys : List ℕ} → Laid d at xs d₁ p → Laid d₁ p ys d₂ q → q ≤ length d → Laid d at (xs ++ ys) d₂ q
+and-then {xs = xs} {ys = ys} a b h = both (omega (arith, length-append xs ys, a .ends, b .ends, h)) a b

@@ -7,50 +7,58 @@ use Rattle.refusal.proofs.Outcomes.{told}
 use Rattle.refusal.proofs.Many.{Passing, begin, more, stopped, ended}
 use Rattle.covenants.specs.Covenant.{itemAt}
 use Rattle.covenants.proofs.Moves.{item-read}
+use Rattle.covenants.proofs.OneByte.{onward}
 use Rattle.covenants.proofs.pass_items.Statement.{statement}
 use Rattle.covenants.proofs.pass_items.Tie as tie
 
 abbrev Inv-loop : tie.InvT-loop
-Inv-loop s start allowance count c₀ i₀ c i = (start ≤ c .position) × Passing (itemAt allowance start s) count (c₀ .position) (c .position) i
+Inv-loop s start allowance count passed₀ at₀ passed at = (start ≤ at) × Passing (itemAt allowance start s) count at₀ at passed
 
 abbrev μ-loop : tie.MeasureT-loop
-μ-loop s start allowance count c₀ i₀ c i = count - i
+μ-loop s start allowance count passed₀ at₀ passed at = count - passed
 
--- src/lib.rt:165:5
+-- src/lib.rt:182:5
 loop-holds : tie.Need-loop-holds Inv-loop μ-loop
 loop-holds c = (omega arith, begin _ _ _)
 
--- src/lib.rt:166:15
+-- src/lib.rt:183:13
+short-items-requires : tie.Need-short-items-requires Inv-loop μ-loop
+short-items-requires c κs = search needs
+
+-- src/lib.rt:185:13
+returns : tie.Need-returns Inv-loop μ-loop
+returns c = sym (ended _ (onward _ (c .before .before .before .loop .inv .1) (c .before .before .short-items .ensures .0 .2) (c .before .before .short-items .ensures .1)) (c .if1 .taken))
+
+-- src/lib.rt:187:15
 item-requires : tie.Need-item-requires Inv-loop μ-loop
 item-requires c κs = search needs
 
--- src/lib.rt:170:17
+-- src/lib.rt:191:17
 enum-known-next : tie.Need-enum-known-next Inv-loop μ-loop
 enum-known-next c = search needs
 
--- src/lib.rt:174:31
-enum-known-stop : tie.Need-enum-known-stop Inv-loop μ-loop
-enum-known-stop c = search needs
+-- src/lib.rt:193:26
+add-passed : tie.Need-add-passed Inv-loop μ-loop
+add-passed c = search needs
 
--- src/lib.rt:175:17
-returns : tie.Need-returns Inv-loop μ-loop
-returns c = sym (stopped _ (c .before .before .before .before .before .loop .inv .1) (c .before .before .before .before .loop-test .taken) (told spanPaper (c .before .before .before .item .ensures) (c .before .stop .given .1)))
-
--- src/lib.rt:178:9
-add-i : tie.Need-add-i Inv-loop μ-loop
-add-i c = search needs
-
--- src/lib.rt:165:5
+-- src/lib.rt:182:5
 loop-less : tie.Need-loop-less Inv-loop μ-loop
 loop-less c = search needs
 
--- src/lib.rt:165:5
+-- src/lib.rt:182:5
 loop-again : tie.Need-loop-again Inv-loop μ-loop
-loop-again c = let e = told spanPaper (c .before .before .before .item .ensures) (c .before .next .given .1) in let m = item-read _ _ _ (omega arith) _ e in (omega (arith, c .before .before .before .before .before .loop .inv .0, m .later, m .ends), more _ (c .before .before .before .before .before .loop .inv .1) (c .before .before .before .before .loop-test .taken) e)
+loop-again c =
+    let e = told spanPaper (c .before .before .before .before .item .ensures) (c .before .before .next .given .1) in
+    let m = item-read _ _ _ (omega arith) _ e in
+    (omega (arith, c .before .before .before .before .before .before .before .short-items .ensures .0, m .later, m .ends), more _ (onward _ (c .before .before .before .before .before .before .before .before .loop .inv .1) (c .before .before .before .before .before .before .before .short-items .ensures .0 .2) (c .before .before .before .before .before .before .before .short-items .ensures .1)) (c .before .before .before .before .before .if1 .left) e)
 
--- src/lib.rt:159:1
+-- src/lib.rt:196:31
+enum-known-stop : tie.Need-enum-known-stop Inv-loop μ-loop
+enum-known-stop c = search needs
+
+-- src/lib.rt:197:17
 returns-2 : tie.Need-returns-2 Inv-loop μ-loop
-returns-2 c = sym (ended _ (c .before .loop .inv .1) (c .loop-test .left))
+returns-2 c = sym (stopped _ (onward _ (c .before .before .before .before .before .before .before .loop .inv .1) (c .before .before .before .before .before .before .short-items .ensures .0 .2) (c .before .before .before .before .before .before .short-items .ensures .1)) (c .before .before .before .before .if1 .left) (told spanPaper (c .before .before .before .item .ensures) (c .before .stop .given .1)))
 
 pub pass-items-spec : {M : Type 1} → statement M
 pass-items-spec =
@@ -59,11 +67,12 @@ pass-items-spec =
     Inv-loop
     μ-loop
     loop-holds
+    short-items-requires
+    returns
     item-requires
     enum-known-next
-    enum-known-stop
-    returns
-    add-i
+    add-passed
     loop-less
     loop-again
+    enum-known-stop
     returns-2)

@@ -11,37 +11,29 @@ use Rattle.links.proofs.rows.commitment.Reads as commitment-reads
 use Rattle.links.proofs.rows.invalid_transition.Reads as invalid-transition-reads
 use Rattle.links.proofs.rows.name_and_start.Reads as name-and-start-reads
 
--- src/rows.rt:253:9
 invalid-transition-requires : tie.Need-invalid-transition-requires
 invalid-transition-requires c κs = search needs
 
--- src/rows.rt:253:9
 returns : tie.Need-returns
 unfolding bidRule
 returns c = rw (ne-eqb _ _ (c .before .if1 .taken)) (c .invalid-transition .ensures)
 
--- src/rows.rt:255:11
 name-and-start-requires : tie.Need-name-and-start-requires
 name-and-start-requires c κs = search needs
 
--- src/rows.rt:256:28
 enum-told : tie.Need-enum-told
 enum-told c = search needs
 
--- src/rows.rt:256:28
 commitment-requires : tie.Need-commitment-requires
 commitment-requires c κs = search needs
 
--- src/rows.rt:257:22
 enum-known-r : tie.Need-enum-known-r
 enum-known-r c = search needs
 
--- src/rows.rt:248:1
 returns-2 : tie.Need-returns-2
 unfolding bidRule
 returns-2 c = rw (eq-eqb _ _ (c .before .before .before .before .if1 .left), ← c .before .before .before .name-and-start .ensures, c .before .enum-told .given .1) (c .commitment .ensures)
 
--- src/rows.rt:248:1
 returns-3 : tie.Need-returns-3
 unfolding bidRule
 returns-3 c = rw (eq-eqb _ _ (c .before .before .before .before .if1 .left), ← c .before .before .before .name-and-start .ensures, c .before .r .given .1)

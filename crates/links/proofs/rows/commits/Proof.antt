@@ -6,7 +6,7 @@ use Rattle.names.specs.Blind.{blindOf}
 use Rattle.covenants.specs.Covenant.{bytesIn}
 use Rattle.words.specs.Sameness.{same}
 use Rattle.sheets.proofs.Reading.{array-inside}
-use Rattle.links.proofs.Judging.{own-part}
+use Rattle.covenants.proofs.Parts.{own-part}
 use Rattle.links.proofs.rows.commits.Statement.{statement}
 use Rattle.links.proofs.rows.commits.Tie as tie
 use Rattle.links.proofs.rows.commits.Reads as reads
@@ -15,23 +15,18 @@ use Rattle.encoding.proofs.read.Cursor.read_array.Reads as read-array-reads
 use Rattle.links.proofs.rows.same_part.Reads as same-part-reads
 use Rattle.names.proofs.blind_bid.Reads as blind-bid-reads
 
--- src/rows.rt:219:9
 read-array-requires : tie.Need-read-array-requires
 read-array-requires c κs = search needs
 
--- src/rows.rt:221:19
 blind-bid-requires : tie.Need-blind-bid-requires
 blind-bid-requires c κs = search needs
 
--- src/rows.rt:222:15
 slice-aggregate-same-part : tie.Need-slice-aggregate-same-part
 slice-aggregate-same-part c = search needs
 
--- src/rows.rt:222:5
 same-part-requires : tie.Need-same-part-requires
-same-part-requires c κs = let h : length (c .before .blind-bid .result) ≡ 32 = search needs in (omega arith, c .before .before .before .before .before .before .before .pre .1)
+same-part-requires c κs = let h : length (c .before .blind-bid .result) ≡ 32 = search needs in (omega arith, omega arith)
 
--- src/rows.rt:214:1
 returns : tie.Need-returns
 returns c = let h : length (c .before .before .blind-bid .result) ≡ 32 = search needs in
     let n = array-inside 32 (c .before .before .before .before .before .before .before .before .args .tx .now) (c .before .before .before .before .before .before .before .before .args .nonce) (c .before .before .before .before .before .read-array .result) (omega arith) (omega arith) (c .before .before .before .before .before .read-array .ensures) in

@@ -4,7 +4,8 @@ use mathlib.Core.Path.{_≡_, refl, ap, sym, _∙_}
 use mathlib.Core.Path.{_≡_, refl, ap, sym, subst, _∙_}
 use Rattle.words.proofs.Le.{part-long}
 use Rattle.links.specs.Workers.{Sizes}
-use Rattle.links.proofs.Judging.{first-byte, destined-other, destined-then}
+use Rattle.covenants.proofs.Parts.{first-byte}
+use Rattle.links.proofs.Judging.{destined-other, destined-then}
 use Rattle.links.proofs.rows.destination.Statement.{statement}
 use Rattle.links.proofs.rows.destination.Tie as tie
 use Rattle.links.proofs.rows.destination.Reads as reads

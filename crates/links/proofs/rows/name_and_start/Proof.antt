@@ -10,7 +10,8 @@ use Rattle.covenants.specs.Covenant.{bytesIn}
 use Rattle.sheets.specs.Sheet.{itemsFrom}
 use Rattle.links.specs.Rules.{breaks, nameAndStart}
 use Rattle.links.specs.Workers.{Pairs}
-use Rattle.links.proofs.Comparing.{same-more, same-not, same-none, Left, left-end, left-broken, left-equal, left-unequal}
+use Rattle.covenants.proofs.Parts.{same-more, same-not, same-none}
+use Rattle.links.proofs.Comparing.{Left, left-end, left-broken, left-equal, left-unequal}
 use Rattle.links.proofs.rows.name_and_start.Statement.{statement}
 use Rattle.links.proofs.rows.name_and_start.Tie as tie
 use Rattle.links.proofs.rows.name_and_start.Reads as reads
@@ -31,35 +32,27 @@ Inv-items tx coins input spent made k₀ k = (k ≤ 2) × (Left input (itemsFrom
 abbrev μ-items : tie.MeasureT-items
 μ-items tx coins input spent made k₀ k = 2 - k
 
--- src/rows.rt:132:9
 items-holds : tie.Need-items-holds Inv-loop μ-loop Inv-items μ-items
 items-holds c = (omega arith, refl)
 
--- src/rows.rt:136:13
 width-of-requires : tie.Need-width-of-requires Inv-loop μ-loop Inv-items μ-items
 width-of-requires c κs = search needs
 
--- src/rows.rt:145:14
 mul-both-items : tie.Need-mul-both-items Inv-loop μ-loop Inv-items μ-items
 mul-both-items c = search needs
 
--- src/rows.rt:145:14
 add-both-items : tie.Need-add-both-items Inv-loop μ-loop Inv-items μ-items
 add-both-items c = search needs
 
--- src/rows.rt:145:13
 cast-both-items : tie.Need-cast-both-items Inv-loop μ-loop Inv-items μ-items
 cast-both-items c = search needs
 
--- src/rows.rt:137:15
 both-items-requires : tie.Need-both-items-requires Inv-loop μ-loop Inv-items μ-items
 both-items-requires c κs = (c .width-of .ensures .1, omega arith, c .before .before .before .before .before .pre .0 .1, c .before .before .before .before .before .pre .1 .1)
 
--- src/rows.rt:148:24
 enum-known-a : tie.Need-enum-known-a Inv-loop μ-loop Inv-items μ-items
 enum-known-a c = search needs
 
--- src/rows.rt:152:17
 loop-holds : tie.Need-loop-holds Inv-loop μ-loop Inv-items μ-items
 loop-holds c = let k = c .before .before .before .before .before .before .items .k in let w = c .before .before .before .before .width-of .result in let a = c .before .a .given .0 .0 in let b = c .before .a .given .0 .1 .0 in
     let p = subst (Pairs (c .before .before .before .before .before .before .before .before .before .args .coins .now) (c .before .before .before .before .before .before .before .before .before .args .tx .now) (c .before .before .before .before .before .before .before .before .before .args .spent .covenant) (c .before .before .before .before .before .before .before .before .before .args .made .covenant) (c .before .before .before .before .before .before .before .before .before .args .input) k w (k * 2 + 1)) (c .before .a .given .1) (c .before .before .before .both-items .ensures) in
@@ -68,70 +61,55 @@ loop-holds c = let k = c .before .before .before .before .before .before .items 
     let x : b + 0 ≡ b = omega arith in
     (omega arith, p .0, p .1, rw (z, y, x))
 
--- src/rows.rt:153:30
 add-if2 : tie.Need-add-if2 Inv-loop μ-loop Inv-items μ-items
 add-if2 c = search needs
 
--- src/rows.rt:153:24
 shared-slice-read-if2 : tie.Need-shared-slice-read-if2 Inv-loop μ-loop Inv-items μ-items
 shared-slice-read-if2 c = search needs
 
--- src/rows.rt:153:43
 add-if2-2 : tie.Need-add-if2-2 Inv-loop μ-loop Inv-items μ-items
 add-if2-2 c = search needs
 
--- src/rows.rt:153:40
 shared-slice-read-if2-2 : tie.Need-shared-slice-read-if2-2 Inv-loop μ-loop Inv-items μ-items
 shared-slice-read-if2-2 c = search needs
 
--- src/rows.rt:154:51
 mismatch-requires : tie.Need-mismatch-requires Inv-loop μ-loop Inv-items μ-items
 mismatch-requires c κs = search needs
 
--- src/rows.rt:156:21
 add-j : tie.Need-add-j Inv-loop μ-loop Inv-items μ-items
 add-j c = search needs
 
--- src/rows.rt:152:17
 loop-less : tie.Need-loop-less Inv-loop μ-loop Inv-items μ-items
 loop-less c = search needs
 
--- src/rows.rt:152:17
 loop-again : tie.Need-loop-again Inv-loop μ-loop Inv-items μ-items
 loop-again c = let l = c .before .before .before .before .loop in let w = c .before .before .before .before .before .before .before .before .before .width-of .result in let a = c .before .before .before .before .before .before .a .given .0 .0 in let b = c .before .before .before .before .before .before .a .given .0 .1 .0 in
     (omega arith, l .inv .1, l .inv .2, sym (same-more (c .before .before .before .before .before .before .before .before .before .before .before .before .before .before .args .coins .now) (c .before .before .before .before .before .before .before .before .before .before .before .before .before .before .args .tx .now) {a = a + l .j} {a′ = a + (l .j + 1)} {b = b + l .j} {b′ = b + (l .j + 1)} {n = w - (l .j + 1)} {n′ = w - l .j} (omega arith) (omega arith) (omega arith) (omega arith) (omega arith) (c .if2 .left)) ∙ l .inv .3)
 
--- src/rows.rt:159:26
 enum-known-r : tie.Need-enum-known-r Inv-loop μ-loop Inv-items μ-items
 enum-known-r c = search needs
 
--- src/rows.rt:163:9
 add-k : tie.Need-add-k Inv-loop μ-loop Inv-items μ-items
 add-k c = search needs
 
--- src/rows.rt:132:9
 items-less : tie.Need-items-less Inv-loop μ-loop Inv-items μ-items
 items-less c = search needs
 
--- src/rows.rt:132:9
 items-again : tie.Need-items-again Inv-loop μ-loop Inv-items μ-items
 items-again c = let l = c .before .loop in let k = c .before .before .before .before .before .before .before .before .items .k in let w = c .before .before .before .before .before .before .width-of .result in let a = c .before .before .before .a .given .0 .0 in let b = c .before .before .before .a .given .0 .1 .0 in
     let p = subst (Pairs (c .before .before .before .before .before .before .before .before .before .before .before .args .coins .now) (c .before .before .before .before .before .before .before .before .before .before .before .args .tx .now) (c .before .before .before .before .before .before .before .before .before .before .before .args .spent .covenant) (c .before .before .before .before .before .before .before .before .before .before .before .args .made .covenant) (c .before .before .before .before .before .before .before .before .before .before .before .args .input) k w (k * 2 + 1)) (c .before .before .before .a .given .1) (c .before .before .before .before .before .both-items .ensures) in
     let t = sym (l .inv .3) ∙ same-none (c .before .before .before .before .before .before .before .before .before .before .before .args .coins .now) (c .before .before .before .before .before .before .before .before .before .before .before .args .tx .now) (a + l .j) (b + l .j) {n = w - l .j} (omega arith) in
     (omega arith, sym (left-equal (c .before .before .before .before .before .before .before .before .before .before .before .args .input) _ _ k (c .before .before .before .before .before .before .width-of .ensures .0) (omega arith) (p .2) t) ∙ c .before .before .before .before .before .before .before .before .items .inv .1)
 
--- src/rows.rt:127:1
 returns : tie.Need-returns Inv-loop μ-loop Inv-items μ-items
 returns c = sym (left-end _ _ _ (c .before .items .k) (c .if1 .taken)) ∙ c .before .items .inv .1
 
--- src/rows.rt:127:1
 returns-2 : tie.Need-returns-2 Inv-loop μ-loop Inv-items μ-items
 returns-2 c = let l = c .before .before .before .before .before .loop in let k = c .before .before .before .before .before .before .before .before .before .before .before .before .items .k in let w = c .before .before .before .before .before .before .before .before .before .before .width-of .result in let a = c .before .before .before .before .before .before .before .a .given .0 .0 in let b = c .before .before .before .before .before .before .before .a .given .0 .1 .0 in
     let p = subst (Pairs (c .before .before .before .before .before .before .before .before .before .before .before .before .before .before .before .args .coins .now) (c .before .before .before .before .before .before .before .before .before .before .before .before .before .before .before .args .tx .now) (c .before .before .before .before .before .before .before .before .before .before .before .before .before .before .before .args .spent .covenant) (c .before .before .before .before .before .before .before .before .before .before .before .before .before .before .before .args .made .covenant) (c .before .before .before .before .before .before .before .before .before .before .before .before .before .before .before .args .input) k w (k * 2 + 1)) (c .before .before .before .before .before .before .before .a .given .1) (c .before .before .before .before .before .before .before .before .before .both-items .ensures) in
     let t = sym (l .inv .3) ∙ same-not (c .before .before .before .before .before .before .before .before .before .before .before .before .before .before .before .args .coins .now) (c .before .before .before .before .before .before .before .before .before .before .before .before .before .before .before .args .tx .now) {a = a + l .j} {b = b + l .j} {n = w - (l .j + 1)} {n′ = w - l .j} (omega arith) (omega arith) (omega arith) (c .before .if2 .taken) in
     ap₂ breaks (c .mismatch .ensures .0) (c .mismatch .ensures .1) ∙ sym (left-unequal (c .before .before .before .before .before .before .before .before .before .before .before .before .before .before .before .args .input) _ _ k (c .before .before .before .before .before .before .before .before .before .before .width-of .ensures .0) (omega arith) (p .2) t) ∙ c .before .before .before .before .before .before .before .before .before .before .before .before .items .inv .1
 
--- src/rows.rt:127:1
 returns-3 : tie.Need-returns-3 Inv-loop μ-loop Inv-items μ-items
 returns-3 c = let k = c .before .before .before .before .before .before .items .k in let w = c .before .before .before .before .width-of .result in
     let p = subst (Pairs (c .before .before .before .before .before .before .before .before .before .args .coins .now) (c .before .before .before .before .before .before .before .before .before .args .tx .now) (c .before .before .before .before .before .before .before .before .before .args .spent .covenant) (c .before .before .before .before .before .before .before .before .before .args .made .covenant) (c .before .before .before .before .before .before .before .before .before .args .input) k w (k * 2 + 1)) (c .before .r .given .1) (c .before .before .before .both-items .ensures) in

@@ -4,7 +4,7 @@ use mathlib.Core.Path.{_≡_, refl, ap, sym, _∙_}
 use Rattle.sheets.specs.Sheet.{outputOf}
 use Rattle.refusal.proofs.Outcomes.{told}
 use Rattle.covenants.specs.Paper.{spotPaper}
-use Rattle.links.proofs.Comparing.{item-there, item-inside, item-counted, item-few}
+use Rattle.sheets.proofs.Items.{item-there, item-inside, item-counted, item-few}
 use Rattle.links.proofs.Judging.{named-there, named-absent}
 use Rattle.links.proofs.rows.named_address.Statement.{statement}
 use Rattle.links.proofs.rows.named_address.Tie as tie

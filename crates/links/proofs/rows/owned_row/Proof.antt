@@ -12,38 +12,30 @@ use Rattle.links.proofs.rows.name_and_start.Reads as name-and-start-rea
 use Rattle.links.proofs.rows.same_address.Reads as same-address-reads
 use Rattle.links.proofs.rows.stays.Reads as stays-reads
 
--- src/rows.rt:305:9
 returns : tie.Need-returns
 unfolding ownedRule
 returns c = rw (ne-eqb _ _ (c .if1 .taken))
 
--- src/rows.rt:307:8
 same-address-requires : tie.Need-same-address-requires
 same-address-requires c κs = (c .before .before .before .before .before .pre .0 .0, c .before .before .before .before .before .pre .1 .0)
 
--- src/rows.rt:308:12
 stays-requires : tie.Need-stays-requires
 stays-requires c κs = search needs
 
--- src/rows.rt:309:13
 name-and-start-requires : tie.Need-name-and-start-requires
 name-and-start-requires c κs = search needs
 
--- src/rows.rt:309:13
 returns-2 : tie.Need-returns-2
 unfolding ownedRule
 returns-2 c = rw (eq-eqb _ _ (c .before .before .before .before .before .if1 .left), ← c .before .before .before .before .same-address .ensures, c .before .before .before .if2 .taken, ← c .before .before .stays .ensures, c .before .if3 .taken) (c .name-and-start .ensures)
 
--- src/rows.rt:311:9
 invalid-transition-requires : tie.Need-invalid-transition-requires
 invalid-transition-requires c κs = search needs
 
--- src/rows.rt:311:9
 returns-3 : tie.Need-returns-3
 unfolding ownedRule
 returns-3 c = rw (eq-eqb _ _ (c .before .before .before .before .before .if1 .left), ← c .before .before .before .before .same-address .ensures, c .before .before .before .if2 .taken, ← c .before .before .stays .ensures, c .before .if3 .left) (c .invalid-transition .ensures)
 
--- src/rows.rt:300:1
 returns-4 : tie.Need-returns-4
 unfolding ownedRule
 returns-4 c = rw (eq-eqb _ _ (c .before .before .if1 .left), ← c .before .same-address .ensures, c .if2 .left)

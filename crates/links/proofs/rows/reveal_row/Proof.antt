@@ -11,29 +11,23 @@ use Rattle.links.proofs.rows.invalid_transition.Reads as invalid-transi
 use Rattle.links.proofs.rows.redeem.Reads as redeem-reads
 use Rattle.links.proofs.rows.same_owner.Reads as same-owner-reads
 
--- src/rows.rt:284:27
 same-owner-requires : tie.Need-same-owner-requires
 same-owner-requires c κs = search needs
 
--- src/rows.rt:285:25
 redeem-requires : tie.Need-redeem-requires
 redeem-requires c κs = search needs
 
--- src/rows.rt:286:14
 invalid-transition-requires : tie.Need-invalid-transition-requires
 invalid-transition-requires c κs = search needs
 
--- src/rows.rt:278:1
 returns : tie.Need-returns
 unfolding revealRule
 returns c = rw (c .before .match .keys1) (c .same-owner .ensures)
 
--- src/rows.rt:278:1
 returns-2 : tie.Need-returns-2
 unfolding revealRule
 returns-2 c = rw (c .before .match .keys2) (c .redeem .ensures)
 
--- src/rows.rt:278:1
 returns-3 : tie.Need-returns-3
 unfolding revealRule
 returns-3 c = rw (ne-eqb _ _ (c .before .match .rest .0 .1), ne-eqb _ _ (c .before .match .rest .1)) (c .invalid-transition .ensures)

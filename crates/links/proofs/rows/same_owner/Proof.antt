@@ -8,31 +8,24 @@ use Rattle.links.proofs.rows.same_owner.Lts as lts
 use Rattle.links.proofs.rows.name_and_start.Reads as name-and-start-reads
 use Rattle.links.proofs.rows.same_address.Reads as same-address-reads
 
--- src/rows.rt:202:11
 name-and-start-requires : tie.Need-name-and-start-requires
 name-and-start-requires c κs = search needs
 
--- src/rows.rt:204:16
 enum-told : tie.Need-enum-told
 enum-told c = search needs
 
--- src/rows.rt:204:16
 same-address-requires : tie.Need-same-address-requires
 same-address-requires c κs = (c .before .before .before .before .before .pre .0 .0, c .before .before .before .before .before .pre .1 .0)
 
--- src/rows.rt:205:17
 returns : tie.Need-returns
 returns c = rw (← c .before .before .before .before .name-and-start .ensures, c .before .before .enum-told .given .1, ← c .before .same-address .ensures, c .if1 .taken)
 
--- src/rows.rt:209:22
 enum-known-r : tie.Need-enum-known-r
 enum-known-r c = search needs
 
--- src/rows.rt:198:1
 returns-2 : tie.Need-returns-2
 returns-2 c = rw (← c .before .before .before .before .name-and-start .ensures, c .before .before .enum-told .given .1, ← c .before .same-address .ensures, c .if1 .left)
 
--- src/rows.rt:198:1
 returns-3 : tie.Need-returns-3
 returns-3 c = rw (← c .before .before .before .name-and-start .ensures, c .before .r .given .1)
 

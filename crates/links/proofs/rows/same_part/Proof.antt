@@ -10,43 +10,33 @@ use Rattle.links.proofs.rows.same_part.Reads as reads
 use Rattle.links.proofs.rows.same_part.Lts as lts
 use Rattle.words.proofs.same.same_bytes.Reads as same-bytes-reads
 
--- src/rows.rt:57:22
 add-same-bytes : tie.Need-add-same-bytes
 add-same-bytes c = search needs
 
--- src/rows.rt:57:16
 sub-same-bytes : tie.Need-sub-same-bytes
 sub-same-bytes c = search needs
 
--- src/rows.rt:57:16
 part-same-bytes-start : tie.Need-part-same-bytes-start
 part-same-bytes-start c = search needs
 
--- src/rows.rt:57:16
 part-same-bytes-end : tie.Need-part-same-bytes-end
 part-same-bytes-end c = search needs
 
--- src/rows.rt:57:36
 add-same-bytes-2 : tie.Need-add-same-bytes-2
 add-same-bytes-2 c = search needs
 
--- src/rows.rt:57:30
 sub-same-bytes-2 : tie.Need-sub-same-bytes-2
 sub-same-bytes-2 c = search needs
 
--- src/rows.rt:57:30
 part-same-bytes-start-2 : tie.Need-part-same-bytes-start-2
 part-same-bytes-start-2 c = search needs
 
--- src/rows.rt:57:30
 part-same-bytes-end-2 : tie.Need-part-same-bytes-end-2
 part-same-bytes-end-2 c = search needs
 
--- src/rows.rt:57:5
 same-bytes-requires : tie.Need-same-bytes-requires
 same-bytes-requires c κs = search needs
 
--- src/rows.rt:53:1
 returns : tie.Need-returns
 returns c = let p : c .before .before .before .before .before .args .a + c .before .before .before .before .before .args .n - c .before .before .before .before .before .args .a ≡ c .before .before .before .before .before .args .n = omega arith in
     let q : c .before .before .before .before .before .args .b + c .before .before .before .before .before .args .m - c .before .before .before .before .before .args .b ≡ c .before .before .before .before .before .args .m = omega arith in

@@ -3,34 +3,28 @@ use native.Mathlib.Omega.{arith}
 use mathlib.Core.Path.{_≡_, refl, ap, sym, _∙_}
 use Rattle.refusal.proofs.Outcomes.{told}
 use Rattle.covenants.specs.Paper.{spotPaper}
-use Rattle.links.proofs.Comparing.{item-fits, item-other, item-none}
+use Rattle.sheets.proofs.Items.{item-fits, item-other, item-none}
 use Rattle.links.proofs.rows.sized_item.Statement.{statement}
 use Rattle.links.proofs.rows.sized_item.Tie as tie
 use Rattle.links.proofs.rows.sized_item.Reads as reads
 use Rattle.links.proofs.rows.sized_item.Lts as lts
 use Rattle.covenants.proofs.items.find.Reads as find-reads
 
--- src/rows.rt:66:11
 find-requires : tie.Need-find-requires
 find-requires c κs = search needs
 
--- src/rows.rt:67:22
 enum-known-start : tie.Need-enum-known-start
 enum-known-start c = search needs
 
--- src/rows.rt:69:17
 returns : tie.Need-returns
 returns c = item-fits _ _ _ (c .before .before .before .before .before .before .pre .1 .2) (omega arith) (c .if1 .taken) (told spotPaper (c .before .before .before .before .find .ensures) (c .before .before .start .given .1))
 
--- src/rows.rt:73:25
 enum-told : tie.Need-enum-told
 enum-told c = search needs
 
--- src/rows.rt:61:1
 returns-2 : tie.Need-returns-2
 returns-2 c = item-other _ _ _ (c .before .before .before .before .before .before .pre .1 .2) (omega arith) (c .if1 .left) (told spotPaper (c .before .before .before .before .find .ensures) (c .before .before .start .given .1))
 
--- src/rows.rt:61:1
 returns-3 : tie.Need-returns-3
 returns-3 c = item-none _ _ _ (c .before .before .before .before .pre .1 .2) (c .before .before .before .before .pre .0) (told spotPaper (c .before .before .find .ensures) (c .enum-told .given .1))
 

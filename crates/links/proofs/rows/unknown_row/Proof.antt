@@ -7,15 +7,12 @@ use Rattle.links.proofs.rows.unknown_row.Reads as reads
 use Rattle.links.proofs.rows.unknown_row.Lts as lts
 use Rattle.covenants.proofs.kind.is_name.Reads as is-name-reads
 
--- src/rows.rt:329:8
 is-name-requires : tie.Need-is-name-requires
 is-name-requires c κs = search needs
 
--- src/rows.rt:330:9
 returns : tie.Need-returns
 returns c = rw (← c .before .is-name .ensures, c .if1 .taken)
 
--- src/rows.rt:326:1
 returns-2 : tie.Need-returns-2
 returns-2 c = rw (← c .before .is-name .ensures, c .if1 .left)
 

@@ -7,11 +7,9 @@ use Rattle.links.proofs.rows.width_of.Tie as tie
 use Rattle.links.proofs.rows.width_of.Reads as reads
 use Rattle.links.proofs.rows.width_of.Lts as lts
 
--- src/rows.rt:111:9
 returns : tie.Need-returns
 returns c = (rw (eq-eqb _ _ (c .if1 .taken)), omega arith)
 
--- src/rows.rt:107:1
 returns-2 : tie.Need-returns-2
 returns-2 c = (rw (ne-eqb _ _ (c .if1 .left)), omega arith)
 

@@ -1,0 +1,29 @@
+-- A directory that is filled item by item: the workers' words, which no public contract has.
+use mathlib.Core.Path.{_≡_}
+use Prim.Native.Nat.{ℕ, _-_, _≤_}
+use mathlib.Core.List.{List, [], _++_, map}
+use lib.ListN.{length}
+use Rattle.refusal.specs.Outcome.{Outcome, ok, err, then, manyAt}
+use Rattle.covenants.specs.Paper.{listed}
+
+abbrev pub starts-of : List (ℕ × ℕ) → List ℕ
+starts-of = map (λ (i : ℕ × ℕ). i .0)
+
+abbrev pub lens-of : List (ℕ × ℕ) → List ℕ
+lens-of = map (λ (i : ℕ × ℕ). i .1)
+
+-- the items that stand in the directory in the end: none where one was refused
+abbrev pub kept : Outcome (List (ℕ × ℕ)) → List (ℕ × ℕ)
+kept (ok items end) = items
+kept (err k vs p) = []
+
+-- after i of count items: those that were read stand in the directory, and what is left gives the rest of the answer
+pub record Filling (read : ℕ → Outcome (ℕ × ℕ)) (start count from : ℕ) (starts lens : List ℕ) (at i : ℕ) : Type 0 where
+  pub bound : i ≤ count
+  pub few : count ≤ 1000
+  pub later : start ≤ at
+  pub done : List (ℕ × ℕ)
+  pub long : length done ≡ i
+  pub firsts : starts ≡ listed (starts-of done)
+  pub sizes : lens ≡ listed (lens-of done)
+  pub rest : then (manyAt read (count - i) at) (λ more end. ok (done ++ more) end) ≡ manyAt read count from

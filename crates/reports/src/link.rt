@@ -1,0 +1,112 @@
+// The line of the link report.
+use crate::text::put_field;
+use crate::text::put_refused;
+use crate::text::put_text;
+use encoding::put::Put;
+use encoding::put::put_bytes;
+use links::CovenantLinkSummary;
+use links::Links;
+use links::Verified;
+use links::verify_covenant_links;
+use refusal::Refusal;
+use refusal::carried_by;
+use refusal::number;
+use sheets::SheetRead;
+use sheets::judge_transaction;
+ghost use mathlib.Core.Path.{_≡_};
+ghost use Prim.Native.Nat.{ℕ, _+_, _≤_};
+ghost use lib.ListN.{length};
+ghost use Rattle.words.specs.Buffers.{laid};
+ghost use Rattle.words.proofs.Laid.{Laid};
+ghost use Rattle.refusal.specs.Paper.{numberOf, carried};
+ghost use Rattle.encoding.specs.Wire.{putAnswer};
+ghost use Rattle.encoding.specs.Paper.{putPaper};
+ghost use Rattle.sheets.specs.Paper.{sheetPaper};
+ghost use Rattle.links.specs.Verify.{summary};
+ghost use Rattle.links.specs.Paper.{verifiedPaper};
+ghost use Rattle.reports.specs.Text.{refusedLine};
+ghost use Rattle.reports.specs.Link.{indexText, stoppedLine, saidLine, answerLine, judgedLine, linkLine};
+
+// The line of a summary; returns where it ends.
+fn put_summary(d: &mut [u8], s: CovenantLinkSummary) -> usize
+    requires { ⌜ 89 ≤ length (now d) ⌝ }
+    ensures { λ r. ⌜ Laid (now (d .entry)) 0 (saidLine (summary (s .«inputs_checked») (s .«linked_outputs») (s .«name_inputs»))) (now (d .exit)) r × (r ≤ 89) ⌝ }
+{
+    let a = put_field(d, 0, b"links inputs=", s.inputs_checked as u64);
+    let b = put_field(d, a, b" linked=", s.linked_outputs as u64);
+    let c = put_field(d, b, b" names=", s.name_inputs as u64);
+    put_text(d, c, b"\n")
+}
+
+// The index, where a refusal of this number has one; returns where it ends.
+fn put_index(d: &mut [u8], at: usize, number: u8, index: usize) -> usize
+    requires { ⌜ at + 24 ≤ length (now d) ⌝ }
+    ensures { λ r. ⌜ Laid (now (d .entry)) at (indexText number index) (now (d .exit)) r × (r ≤ at + 24) ⌝ }
+{
+    if number < 12 {
+        return at;
+    }
+    if 26 < number {
+        return at;
+    }
+    put_field(d, at, b" at ", index as u64)
+}
+
+// The line of a refusal, with its index; returns where it ends.
+fn put_stopped(d: &mut [u8], refusal: Refusal) -> usize
+    requires { ⌜ 53 ≤ length (now d) ⌝ }
+    ensures { λ r. ⌜ Laid (now (d .entry)) 0 (stoppedLine (numberOf refusal) (carried refusal)) (now (d .exit)) r × (r ≤ 53) ⌝ }
+{
+    let k = number(refusal);
+    let carried = carried_by(refusal);
+    let a = put_field(d, 0, b"refused ", k as u64);
+    let b = put_index(d, a, k, carried.first);
+    put_text(d, b, b"\n")
+}
+
+// The line of the verifier's answer; returns where it ends.
+fn put_answer(d: &mut [u8], verified: Verified) -> usize
+    requires { ⌜ 89 ≤ length (now d) ⌝ }
+    ensures { λ r. ⌜ Laid (now (d .entry)) 0 (answerLine (verifiedPaper verified)) (now (d .exit)) r × (r ≤ 89) ⌝ }
+{
+    let links = verified.links;
+    match links {
+        Links::Linked(s) => put_summary(d, s),
+        Links::Refused { refusal, side: _ } => put_stopped(d, refusal),
+    }
+}
+
+// The line where the coin sheet is too long, after the transaction sheet was judged; returns where it ends.
+fn put_too_long(d: &mut [u8], read: SheetRead) -> usize
+    requires { ⌜ 53 ≤ length (now d) ⌝ }
+    ensures { λ r. ⌜ Laid (now (d .entry)) 0 (judgedLine (sheetPaper read) (refusedLine 28)) (now (d .exit)) r × (r ≤ 53) ⌝ }
+{
+    match read {
+        SheetRead::Counts(_, _) => put_refused(d, 28),
+        SheetRead::Refused { refusal, side: _ } => put_stopped(d, refusal),
+    }
+}
+
+// The line of two sheets; returns where it ends.
+fn put_line(d: &mut [u8], tx: &[u8], coins: &[u8]) -> usize
+    requires { ⌜ 89 ≤ length (now d) ⌝ }
+    ensures { λ r. ⌜ Laid (now (d .entry)) 0 (linkLine (now (tx .entry)) (now (coins .entry))) (now (d .exit)) r × (r ≤ 89) ⌝ }
+{
+    if 32768 < tx.len() {
+        return put_refused(d, 28);
+    }
+    if 32768 < coins.len() {
+        return put_too_long(d, judge_transaction(tx));
+    }
+    put_answer(d, verify_covenant_links(tx, coins))
+}
+
+// The line at the start of `out`, its newline with it: all of it, or nothing and the refusal.
+pub fn link_line(tx: &[u8], coins: &[u8], out: &mut [u8]) -> Put
+    ensures { λ r. ⌜ putPaper r ≡ putAnswer 0 (linkLine (now (tx .entry)) (now (coins .entry))) (now (out .entry)) ⌝ }
+    ensures { λ _. ⌜ now (out .exit) ≡ laid 0 (linkLine (now (tx .entry)) (now (coins .entry))) (now (out .entry)) ⌝ }
+{
+    let mut line = [0u8; 89];
+    let n = put_line(&mut line, tx, coins);
+    put_bytes(out, 0, &line[..n])
+}
