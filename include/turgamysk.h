@@ -8,6 +8,7 @@
 #ifndef TURGAMYSK_H
 #define TURGAMYSK_H
 
+#include <stdbool.h>
 #include <stddef.h>
 #include <stdint.h>
 
@@ -65,6 +66,288 @@ turgamysk_covenant_answer turgamysk_covenant_decode(const uint8_t *bytes, size_t
  */
 turgamysk_write_answer turgamysk_covenant_encode(uint8_t *dest, size_t dest_length, uint8_t kind, const uint8_t *source, size_t source_length,
                                                  const size_t *starts, const size_t *lens, size_t count);
+
+/* ---- names and name states (crates/capi/src/states.rt) */
+
+/* Whether the `length` bytes at `name` are a name: 0, or the refusal's number, which is 6. */
+uint8_t turgamysk_validate_name(const uint8_t *name, size_t length);
+
+/* The hash of the name that the `length` bytes at `name` are, into the 32 bytes at `digest`: 0; or 6, and 32 zero bytes. */
+uint8_t turgamysk_hash_name(const uint8_t *name, size_t length, uint8_t *digest);
+
+/* The commitment of a bid of `value` under the 32 bytes at `nonce`, into the 32 bytes at `digest`. */
+void turgamysk_blind_bid(uint64_t value, const uint8_t *nonce, uint8_t *digest);
+
+/* A transaction's output, by the transaction's hash and the output's number. The null outpoint is zeros and 4294967295. */
+typedef struct {
+    uint8_t transaction_hash[32];
+    uint32_t index;
+} turgamysk_outpoint;
+
+/*
+ * The state of a name under its key `name_hash`. The name is the first `name_length` bytes of `name`, the resource the first `resource_length` of
+ * `resource_data`; what stands behind them is not looked at. A length may be any number: bytes past the array count as zeros, and the writer refuses it.
+ */
+typedef struct {
+    uint8_t name_hash[32];
+    uint8_t name[63];
+    size_t name_length;
+    uint8_t resource_data[512];
+    size_t resource_length;
+    uint32_t height;
+    uint32_t renewal;
+    turgamysk_outpoint owner;
+    uint64_t value;
+    uint64_t highest;
+    uint32_t transfer;
+    uint32_t revoked;
+    uint32_t claimed;
+    uint32_t renewals;
+    bool registered;
+    bool expired;
+    bool weak;
+} turgamysk_name_state;
+
+/* A state that was read (`number` 0), or the refusal as above, and then a state all of zeros. `position` is where the reader then stands. */
+typedef struct {
+    uint8_t number;
+    size_t first;
+    size_t second;
+    size_t third;
+    size_t position;
+    turgamysk_name_state state;
+} turgamysk_state_answer;
+
+/* The state whose record is all of the `length` bytes, under the 32 bytes at `key`. */
+turgamysk_state_answer turgamysk_name_state_decode(const uint8_t *key, const uint8_t *bytes, size_t length);
+
+/* The record of a state, into the first of the `dest_length` bytes at `dest`: all of it, or nothing. */
+turgamysk_write_answer turgamysk_name_state_encode(turgamysk_name_state state, uint8_t *dest, size_t dest_length);
+
+/* How many bytes the record of a state takes, as `written`, or why it is not written; nothing is. */
+turgamysk_write_answer turgamysk_name_state_encoded_size(turgamysk_name_state state);
+
+/* 0 for a null state, 1 for one whose owner is not the null outpoint, 2 for the others. */
+uint8_t turgamysk_name_state_class(turgamysk_name_state state);
+
+/* Whether all but the key and the name is zero, empty, unset or the null outpoint. */
+bool turgamysk_name_state_is_null(turgamysk_name_state state);
+
+/* The null state, with no name, of the 32 bytes at `key`. */
+turgamysk_name_state turgamysk_name_state_null(const uint8_t *key);
+
+/* Whether two states are the same: key, name, resource and every other field. */
+bool turgamysk_name_state_same(turgamysk_name_state state, turgamysk_name_state other);
+
+/* ---- sheets (crates/capi/src/sheet.rt) */
+
+/*
+ * How many inputs, or coins, and outputs a sheet has (`number` 0), or the refusal as above and the side of the sheet: 0 transaction, 1 coins.
+ * Unused parts are zeros.
+ */
+typedef struct {
+    uint8_t number;
+    size_t first;
+    size_t second;
+    size_t third;
+    uint8_t side;
+    size_t inputs;
+    size_t outputs;
+} turgamysk_sheet_answer;
+
+/* Where an item stands: `length` bytes from `offset` on. Zeros where there is none. */
+typedef struct {
+    bool exists;
+    size_t offset;
+    size_t length;
+} turgamysk_view_answer;
+
+/* The transaction sheet that is all of the `length` bytes, judged whole. */
+turgamysk_sheet_answer turgamysk_judge_transaction(const uint8_t *sheet, size_t length);
+
+/* The coin sheet that is all of the `length` bytes, judged whole; `inputs` is the number of coins, and `outputs` 0. */
+turgamysk_sheet_answer turgamysk_judge_coins(const uint8_t *sheet, size_t length);
+
+/*
+ * The item of the covenant of output number `index` of the transaction sheet at `tx` (`side` 0), or of coin number `index` of the coin sheet at
+ * `coins` (`side` 1), within that sheet. There is none on another side, or if either sheet is refused.
+ */
+turgamysk_view_answer turgamysk_view_item(const uint8_t *tx, size_t tx_length, const uint8_t *coins, size_t coins_length, uint8_t side,
+                                          size_t index, size_t item);
+
+/* ---- reads and writes (crates/capi/src/wire.rt) */
+
+/* A number that was read (`number` 0), or the refusal as above. `position` is where the reader then stands. */
+typedef struct {
+    uint8_t number;
+    size_t first;
+    size_t second;
+    size_t third;
+    size_t position;
+    uint64_t value;
+} turgamysk_number_answer;
+
+/* The same for bytes: they are `length` from `start` on. */
+typedef struct {
+    uint8_t number;
+    size_t first;
+    size_t second;
+    size_t third;
+    size_t position;
+    size_t start;
+    size_t length;
+} turgamysk_span_answer;
+
+/* The same for a read that has no value, or puts it elsewhere. */
+typedef struct {
+    uint8_t number;
+    size_t first;
+    size_t second;
+    size_t third;
+    size_t position;
+} turgamysk_moved_answer;
+
+/* The same for an outpoint. */
+typedef struct {
+    uint8_t number;
+    size_t first;
+    size_t second;
+    size_t third;
+    size_t position;
+    turgamysk_outpoint outpoint;
+} turgamysk_outpoint_answer;
+
+/* How many of the `length` bytes stand behind `position`. */
+size_t turgamysk_remaining(const uint8_t *source, size_t length, size_t position);
+
+/* The number of 1, 2, 4 or 8 bytes, the lowest first, at `position` of the `length` bytes. */
+turgamysk_number_answer turgamysk_read_u8(const uint8_t *source, size_t length, size_t position);
+turgamysk_number_answer turgamysk_read_u16_le(const uint8_t *source, size_t length, size_t position);
+turgamysk_number_answer turgamysk_read_u32_le(const uint8_t *source, size_t length, size_t position);
+turgamysk_number_answer turgamysk_read_u64_le(const uint8_t *source, size_t length, size_t position);
+
+/* The compact size there; and one of at most `maximum`. */
+turgamysk_number_answer turgamysk_read_compact_size(const uint8_t *source, size_t length, size_t position);
+turgamysk_number_answer turgamysk_read_compact_usize(const uint8_t *source, size_t length, size_t position, size_t maximum);
+
+/* The next `size` bytes; the same, of which there may be at most `maximum`; and as many as a compact size of at most `maximum` says. */
+turgamysk_span_answer turgamysk_read_slice(const uint8_t *source, size_t length, size_t position, size_t size);
+turgamysk_span_answer turgamysk_read_bounded(const uint8_t *source, size_t length, size_t position, size_t size, size_t maximum);
+turgamysk_span_answer turgamysk_read_varbytes(const uint8_t *source, size_t length, size_t position, size_t maximum);
+
+/* The next 32 bytes, into the 32 bytes at `array`: zeros where they are refused. */
+turgamysk_moved_answer turgamysk_read_array(const uint8_t *source, size_t length, size_t position, uint8_t *array);
+
+/* Whether no bytes stand behind `position`. */
+turgamysk_moved_answer turgamysk_finish(const uint8_t *source, size_t length, size_t position);
+
+/* `value` in 1, 2, 4 or 8 bytes, the lowest first, into the `dest_length` bytes at `dest` from `at` on: all of it, or nothing. */
+turgamysk_write_answer turgamysk_put_u8(uint8_t *dest, size_t dest_length, size_t at, uint8_t value);
+turgamysk_write_answer turgamysk_put_u16_le(uint8_t *dest, size_t dest_length, size_t at, uint16_t value);
+turgamysk_write_answer turgamysk_put_u32_le(uint8_t *dest, size_t dest_length, size_t at, uint32_t value);
+turgamysk_write_answer turgamysk_put_u64_le(uint8_t *dest, size_t dest_length, size_t at, uint64_t value);
+
+/* The same for `length` bytes, for a compact size in its shortest form, and for bytes behind their length. */
+turgamysk_write_answer turgamysk_put_bytes(uint8_t *dest, size_t dest_length, size_t at, const uint8_t *value, size_t length);
+turgamysk_write_answer turgamysk_put_compact_size(uint8_t *dest, size_t dest_length, size_t at, uint64_t value);
+turgamysk_write_answer turgamysk_put_varbytes(uint8_t *dest, size_t dest_length, size_t at, const uint8_t *value, size_t length);
+
+/* How many bytes a compact size takes. */
+size_t turgamysk_compact_size_len(uint64_t value);
+
+/* The outpoint in 36 bytes at `position`; those bytes, into the 36 at `encoded`; whether two are the same; whether one is the null outpoint. */
+turgamysk_outpoint_answer turgamysk_outpoint_decode(const uint8_t *source, size_t length, size_t position);
+void turgamysk_outpoint_encode(turgamysk_outpoint outpoint, uint8_t *encoded);
+bool turgamysk_outpoint_same(turgamysk_outpoint outpoint, turgamysk_outpoint other);
+bool turgamysk_outpoint_is_null(turgamysk_outpoint outpoint);
+
+/* ---- runs, items and kinds (crates/capi/src/items.rt) */
+
+/*
+ * A covenant of a run (`number` 0), and then `position` is behind it; or the end: no bytes are left (`ended`), or the refusal as above.
+ * `covenants` is how many there were up to here.
+ */
+typedef struct {
+    uint8_t number;
+    size_t first;
+    size_t second;
+    size_t third;
+    size_t position;
+    bool ended;
+    uint8_t kind;
+    size_t count;
+    size_t used;
+    size_t covenants;
+} turgamysk_step_answer;
+
+/* How a run ended: no bytes are left (`number` 0), or the refusal as above; and how many covenants it had. */
+typedef struct {
+    uint8_t number;
+    size_t first;
+    size_t second;
+    size_t third;
+    size_t position;
+    size_t covenants;
+} turgamysk_run_answer;
+
+/* The number that an item spells, where it has the width; else zeros. */
+typedef struct {
+    bool exists;
+    uint64_t value;
+} turgamysk_item_answer;
+
+/* The next covenant of a run, from `position` on and after `count` covenants, under an allowance of `limit` bytes; a run starts at 0, 0. */
+turgamysk_step_answer turgamysk_covenant_run_next(const uint8_t *source, size_t length, size_t limit, size_t position, size_t count);
+
+/* The whole run, read to its end. */
+turgamysk_run_answer turgamysk_covenant_read_run(const uint8_t *source, size_t length, size_t limit);
+
+/* Item number `index` of the covenant at `position`, found without a directory. */
+turgamysk_view_answer turgamysk_covenant_find(const uint8_t *source, size_t length, size_t position, size_t index);
+
+/*
+ * Item number `index` of the first `count` that the 1,000 starts and lengths name in the `length` bytes: where it stands; the number that it spells,
+ * where it has 1, 4 or 8 bytes; and its bytes, into the 32 at `hash`, where it has 32 (else false, and zeros).
+ */
+turgamysk_view_answer turgamysk_covenant_item(const uint8_t *source, size_t length, const size_t *starts, const size_t *lens, size_t count,
+                                              size_t index);
+turgamysk_item_answer turgamysk_covenant_item_u8(const uint8_t *source, size_t length, const size_t *starts, const size_t *lens, size_t count,
+                                                 size_t index);
+turgamysk_item_answer turgamysk_covenant_item_u32(const uint8_t *source, size_t length, const size_t *starts, const size_t *lens, size_t count,
+                                                  size_t index);
+turgamysk_item_answer turgamysk_covenant_item_u64(const uint8_t *source, size_t length, const size_t *starts, const size_t *lens, size_t count,
+                                                  size_t index);
+bool turgamysk_covenant_item_name_hash(const uint8_t *source, size_t length, const size_t *starts, const size_t *lens, size_t count, size_t index,
+                                       uint8_t *hash);
+
+/* How many bytes the covenant of those items takes, as `written`, or why it is not written; nothing is. */
+turgamysk_write_answer turgamysk_covenant_encoded_size(const uint8_t *source, size_t length, const size_t *starts, const size_t *lens,
+                                                       size_t count);
+
+/* Whether a kind is a known one but None; one of Reveal to Revoke; Revoke. */
+bool turgamysk_is_name(uint8_t kind);
+bool turgamysk_is_linked(uint8_t kind);
+bool turgamysk_is_unspendable(uint8_t kind);
+
+/*
+ * The summary of two sheets that keep the link rules (`number` 0), or the refusal as above: of a sheet, with its `side` (0 transaction, 1 coins), or of a
+ * rule. In 12 `expected` is the input's outpoint and `actual` the coin's. Unused parts are zeros.
+ */
+typedef struct {
+    uint8_t number;
+    size_t first;
+    size_t second;
+    size_t third;
+    uint8_t side;
+    size_t inputs_checked;
+    size_t linked_outputs;
+    size_t name_inputs;
+    turgamysk_outpoint expected;
+    turgamysk_outpoint actual;
+} turgamysk_links_answer;
+
+/* Whether the transaction of the `tx_length` bytes at `tx` and the coins of the `coins_length` bytes at `coins` keep the link rules. */
+turgamysk_links_answer turgamysk_verify_covenant_links(const uint8_t *tx, size_t tx_length, const uint8_t *coins, size_t coins_length);
 
 #ifdef __cplusplus
 }

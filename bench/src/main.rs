@@ -5,6 +5,7 @@ mod blake2b_256;
 mod bytes;
 mod covenants;
 mod sha3_256;
+mod states;
 mod table;
 mod timing;
 mod turgamysk;
@@ -42,6 +43,22 @@ fn main() {
         Contest {
             agree: covenants::agree,
             table: covenants::encoding,
+        },
+        Contest {
+            agree: states::agree,
+            table: states::decoding,
+        },
+        Contest {
+            agree: states::agree,
+            table: states::encoding,
+        },
+        Contest {
+            agree: states::agree_on_hashes,
+            table: states::hashing,
+        },
+        Contest {
+            agree: states::agree_on_hashes,
+            table: states::blinding,
         },
     ];
     for contest in &contests {

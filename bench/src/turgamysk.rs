@@ -29,6 +29,18 @@ mod c {
             lens: *const usize,
             count: usize,
         ) -> super::WriteAnswer;
+        pub fn turgamysk_hash_name(name: *const u8, length: usize, digest: *mut u8) -> u8;
+        pub fn turgamysk_blind_bid(value: u64, nonce: *const u8, digest: *mut u8);
+        pub fn turgamysk_name_state_decode(
+            key: *const u8,
+            bytes: *const u8,
+            length: usize,
+        ) -> super::StateAnswer;
+        pub fn turgamysk_name_state_encode(
+            state: super::NameState,
+            dest: *mut u8,
+            dest_length: usize,
+        ) -> super::WriteAnswer;
     }
 }
 
@@ -110,4 +122,59 @@ pub fn covenant_encode(
             count,
         )
     }
+}
+
+pub fn hash_name(name: &[u8], digest: &mut Digest) -> u8 {
+    unsafe { c::turgamysk_hash_name(name.as_ptr(), name.len(), digest.as_mut_ptr()) }
+}
+
+pub fn blind_bid(value: u64, nonce: &[u8; 32], digest: &mut Digest) {
+    unsafe { c::turgamysk_blind_bid(value, nonce.as_ptr(), digest.as_mut_ptr()) }
+}
+
+#[repr(C)]
+#[derive(Clone, Copy)]
+pub struct Outpoint {
+    pub transaction_hash: [u8; 32],
+    pub index: u32,
+}
+
+#[repr(C)]
+#[derive(Clone, Copy)]
+pub struct NameState {
+    pub name_hash: [u8; 32],
+    pub name: [u8; 63],
+    pub name_length: usize,
+    pub resource_data: [u8; 512],
+    pub resource_length: usize,
+    pub height: u32,
+    pub renewal: u32,
+    pub owner: Outpoint,
+    pub value: u64,
+    pub highest: u64,
+    pub transfer: u32,
+    pub revoked: u32,
+    pub claimed: u32,
+    pub renewals: u32,
+    pub registered: bool,
+    pub expired: bool,
+    pub weak: bool,
+}
+
+#[repr(C)]
+pub struct StateAnswer {
+    pub number: u8,
+    pub first: usize,
+    pub second: usize,
+    pub third: usize,
+    pub position: usize,
+    pub state: NameState,
+}
+
+pub fn name_state_decode(key: &[u8; 32], bytes: &[u8]) -> StateAnswer {
+    unsafe { c::turgamysk_name_state_decode(key.as_ptr(), bytes.as_ptr(), bytes.len()) }
+}
+
+pub fn name_state_encode(state: &NameState, dest: &mut [u8]) -> WriteAnswer {
+    unsafe { c::turgamysk_name_state_encode(*state, dest.as_mut_ptr(), dest.len()) }
 }

@@ -1,1 +1,6 @@
 pub mod Flat
+pub mod States
+pub mod Sheet
+pub mod Reading
+pub mod Items
+pub mod Linkage

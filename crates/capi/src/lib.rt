@@ -1,4 +1,10 @@
 // The C boundary: each entry of the libraries under a C name, with its whole contract. include/turgamysk.h declares them.
+pub mod items;
+pub mod linkage;
+pub mod sheet;
+pub mod states;
+pub mod wire;
+
 ghost use mathlib.Core.Path.{_≡_};
 ghost use mathlib.Core.List.{_++_};
 ghost use Rattle.words.specs.Words.{bytes};

@@ -17,6 +17,7 @@ ghost use Rattle.name_state.specs.Paper.{stateOf, stored, nullState, own
 pub mod comparison;
 
 // The Rust's `NameState`; of each array only the first `name_length`, `resource_length` bytes are the name and the resource.
+#[repr(C)]
 pub struct NameState {
     pub name_hash: NameHash,
     pub name: [u8; 63],

@@ -1,5 +1,5 @@
 -- What the reader stores of a state.
-use mathlib.Core.Path.{_≡_, refl, ap, ap₂, _∙_}
+use mathlib.Core.Path.{_≡_, refl, ap, ap₂, sym, _∙_}
 use Prim.Native.Nat.{ℕ, _+_, _-_, _≤_}
 use native.Mathlib.Omega.{arith}
 use mathlib.Core.List.{List, []}
@@ -9,14 +9,14 @@ use lib.Dec.{eqb}
 use Rattle.words.proofs.Le.{part-long}
 use Rattle.words.specs.Buffers.{pick, laid}
 use Rattle.words.proofs.Over.{over-zeros}
-use Rattle.refusal.specs.Outcome.{Outcome, ok, err, then}
+use Rattle.refusal.specs.Outcome.{Outcome, ok, err, then, past}
 use Rattle.encoding.specs.Wire.{finishAt}
 use Rattle.name_state.specs.State.{State, bitmap, binding}
 use Rattle.name_state.specs.Paper.{padded, stored, stateOf}
 use Rattle.name_state.specs.declared.NameState.{NameState}
 use Rattle.name_state.proofs.Theorems.{stored-holds}
 use Rattle.name_states.specs.Read.{judgedBits}
-use Rattle.name_states.specs.Paper.{beside, shownState}
+use Rattle.name_states.specs.Paper.{zeros, beside, shownState}
 
 -- a part of the record, laid over an array of zeros
 pub padded-part : (s : List ℕ) (at n m : ℕ) {bs : List ℕ} → at + n ≤ length s → n ≤ m → bs ≡ laid 0 (take (at + n - at) (drop at s)) (replicate m 0) → bs ≡ padded m (take n (drop at s))
@@ -43,8 +43,22 @@ beside-stored s b g at = go (finishAt s at) (eqb (binding g) 0) (eqb (bitmap g) 
     go (err k vs p) x y = refl
 
 -- the judgement of what was stored
-pub judged-stored : (s : List ℕ) (b : ℕ) (g : State) (at : ℕ) {n : NameState} {d : Outcome Unit × NameState} → n ≡ stored g → length (g .name) ≤ 63 → length (g .resource) ≤ 512
+judged-stored : (s : List ℕ) (b : ℕ) (g : State) (at : ℕ) {n : NameState} {d : Outcome Unit × NameState} → n ≡ stored g → length (g .name) ≤ 63 → length (g .resource) ≤ 512
     → d ≡ beside (judgedBits s (b, stateOf n) at) n → d ≡ shownState (judgedBits s (b, g) at)
 judged-stored s b g at e h k f =
     let w = ap stateOf e ∙ stored-holds g h k in
     f ∙ ap₂ (λ (x : State) (y : NameState). beside (judgedBits s (b, x) at) y) w e ∙ beside-stored s b g at
+
+-- a state beside what a judgement came to, where the judgement was told without it
+abbrev pub besidePast : Outcome Unit → NameState → Outcome Unit × NameState
+besidePast (ok u p) n = (ok u p, n)
+besidePast (err k vs p) n = (err k vs p, zeros)
+
+beside-past : (o : Outcome State) (n : NameState) → beside o n ≡ besidePast (past o) n
+beside-past (ok t p) n = refl
+beside-past (err k vs p) n = refl
+
+pub judged-told : (s : List ℕ) (b : ℕ) (g : State) (at : ℕ) {n : NameState} {m : Outcome Unit} → n ≡ stored g → length (g .name) ≤ 63 → length (g .resource) ≤ 512
+    → past (judgedBits s (b, stateOf n) at) ≡ m → besidePast m n ≡ shownState (judgedBits s (b, g) at)
+judged-told s b g at {n} e h k f =
+    judged-stored s b g at e h k (ap (λ (m : Outcome Unit). besidePast m n) (sym f) ∙ sym (beside-past (judgedBits s (b, stateOf n) at) n))

@@ -26,11 +26,12 @@ use words::store::put_bytes;
 ghost use mathlib.Core.Path.{_≡_};
 ghost use Prim.Native.Nat.{ℕ, _+_, _≤_};
 ghost use lib.ListN.{length};
-ghost use Rattle.refusal.specs.Outcome.{then};
+ghost use Rattle.refusal.specs.Outcome.{then, past};
 ghost use Rattle.encoding.specs.declared.read.Moved.{Moved};
+ghost use Rattle.encoding.specs.Paper.{movedPaper};
 ghost use Rattle.name_state.specs.Paper.{stateOf, stored};
 ghost use Rattle.name_states.specs.Read.{gathered, optionalAt, judgedBits, readState};
-ghost use Rattle.name_states.specs.Paper.{decodedPaper, zeros, beside, shownState, textsOf, numbersOf, amountsOf, timesOf};
+ghost use Rattle.name_states.specs.Paper.{decodedPaper, zeros, shownState, textsOf, numbersOf, amountsOf, timesOf};
 
 // Whether the bytes are a state's record, and the state; zeros where refused.
 pub struct Decoded {
@@ -112,33 +113,30 @@ fn build(
 }
 
 // What is judged at the end: trailing bytes, the name and its key, the bitmap.
-fn judge(s: &[u8], bits: u16, state: NameState, c: Cursor) -> Decoded
-    ensures { λ d. ⌜ decodedPaper d ≡ beside (judgedBits (now (s .entry)) (bits, stateOf state) (c .position)) state ⌝ }
+fn judge(s: &[u8], bits: u16, state: NameState, c: Cursor) -> Moved
+    ensures { λ r. ⌜ movedPaper r ≡ past (judgedBits (now (s .entry)) (bits, stateOf state) (c .position)) ⌝ }
 {
     match c.finish(s) {
         Moved::To(end) => match state.validate_key_binding() {
             Binding::Bound => {
                 if state.bitmap() != bits {
-                    return refused(Stop {
+                    return Moved::Refused(Stop {
                         refusal: Refusal::NonCanonicalNameState,
                         position: end.position,
                     });
                 }
-                Decoded {
-                    read: Moved::To(end),
-                    state,
-                }
+                Moved::To(end)
             }
-            Binding::NoName => refused(Stop {
+            Binding::NoName => Moved::Refused(Stop {
                 refusal: Refusal::InvalidName,
                 position: end.position,
             }),
-            Binding::OtherKey => refused(Stop {
+            Binding::OtherKey => Moved::Refused(Stop {
                 refusal: Refusal::NameStateHashMismatch,
                 position: end.position,
             }),
         },
-        Moved::Refused(stop) => refused(stop),
+        Moved::Refused(stop) => Moved::Refused(stop),
     }
 }
 
@@ -155,7 +153,13 @@ fn optional(key: NameHash, s: &[u8], texts: Texts, numbers: Numbers, c: Cursor) 
         ReadAmounts::Value(amounts, next) => match read_times(s, next, bits) {
             ReadTimes::Value(times, end) => {
                 let state = build(key, s, texts, numbers, owner, amounts, times);
-                judge(s, bits, state, end)
+                match judge(s, bits, state, end) {
+                    Moved::To(last) => Decoded {
+                        read: Moved::To(last),
+                        state,
+                    },
+                    Moved::Refused(why) => refused(why),
+                }
             }
             ReadTimes::Refused(stop) => refused(stop),
         },

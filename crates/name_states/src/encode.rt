@@ -11,14 +11,13 @@ use words::store::put_le;
 ghost use mathlib.Core.Path.{_≡_};
 ghost use mathlib.Core.List.{List, [], _++_};
 ghost use Prim.Native.Nat.{ℕ, _+_, _≤_};
-ghost use lib.ListN.{length};
+ghost use lib.ListN.{length, take};
 ghost use lib.Dec.{eqb};
 ghost use Rattle.words.specs.Words.{bytes};
 ghost use Rattle.words.specs.Buffers.{over, pick};
 ghost use Rattle.refusal.specs.Outcome.{wrote, refused};
 ghost use Rattle.encoding.specs.Paper.{putPaper};
-ghost use Rattle.name_state.specs.State.{binding};
-ghost use Rattle.name_state.specs.Paper.{stateOf};
+ghost use Rattle.name_state.specs.Paper.{stateOf, boundPaper};
 ghost use Rattle.name_states.specs.Written.{ownerBytes, amountBytes, timeBytes, ownHeld, ownTimes, stateBytes, checkedSize, encodeAnswer, encodeContent};
 
 // ---- how many bytes
@@ -80,12 +79,11 @@ fn record_size(state: NameState) -> usize
 }
 
 // The last of the checks: the name and its key.
-fn bound_size(state: NameState) -> Put
-    requires { ⌜ (state .«name_length» ≤ 63) × (state .«resource_length» ≤ 512) ⌝ }
-    ensures { λ r. ⌜ putPaper r ≡ pick (eqb (binding (stateOf state)) 0) (wrote (length (stateBytes (stateOf state)))) (refused (binding (stateOf state)) []) ⌝ }
+fn bound_size(binding: Binding, size: usize) -> Put
+    ensures { λ r. ⌜ putPaper r ≡ pick (eqb (boundPaper binding) 0) (wrote size) (refused (boundPaper binding) []) ⌝ }
 {
-    match state.validate_key_binding() {
-        Binding::Bound => Put::Written(record_size(state)),
+    match binding {
+        Binding::Bound => Put::Written(size),
         Binding::NoName => Put::Refused(Refusal::InvalidName),
         Binding::OtherKey => Put::Refused(Refusal::NameStateHashMismatch),
     }
@@ -113,7 +111,7 @@ pub fn encoded_size(state: NameState) -> Put
     if NameState::MAX_SAFE_INTEGER < state.highest.0 {
         return Put::Refused(Refusal::InvalidNameState { reason: 6 });
     }
-    bound_size(state)
+    bound_size(state.validate_key_binding(), record_size(state))
 }
 
 // ---- the bytes, where there is room; each answers where they end
@@ -195,6 +193,14 @@ fn put_text(d: &mut [u8], at: usize, width: usize, text: &[u8]) -> usize
     body + n
 }
 
+// The first n bytes of an array, as a text.
+fn put_part(d: &mut [u8], at: usize, width: usize, array: &[u8], n: usize) -> usize
+    requires { ⌜ (width ≤ 8) × (n ≤ length (now array)) × (at + (width + n) ≤ length (now d)) ⌝ }
+    ensures { λ r. ⌜ (r ≡ at + length (bytes width (length (take n (now (array .entry)))) ++ take n (now (array .entry)))) × (now (d .exit) ≡ over at (bytes width (length (take n (now (array .entry)))) ++ take n (now (array .entry))) (now (d .entry))) ⌝ }
+{
+    put_text(d, at, width, &array[..n])
+}
+
 fn put_numbers(d: &mut [u8], at: usize, height: u32, renewal: u32, bits: u16)
     requires { ⌜ at + 10 ≤ length (now d) ⌝ }
     ensures { λ _. ⌜ now (d .exit) ≡ over at (bytes 4 height ++ bytes 4 renewal ++ bytes 2 bits) (now (d .entry)) ⌝ }
@@ -210,12 +216,8 @@ fn put_record(state: NameState, d: &mut [u8])
     ensures { λ _. ⌜ now (d .exit) ≡ over 0 (stateBytes (stateOf state)) (now (d .entry)) ⌝ }
 {
     let bits = state.bitmap();
-    let name = state.name;
-    let resource = state.resource_data;
-    let n = state.name_length;
-    let m = state.resource_length;
-    let one = put_text(d, 0, 1, &name[..n]);
-    let two = put_text(d, one, 2, &resource[..m]);
+    let one = put_part(d, 0, 1, &state.name, state.name_length);
+    let two = put_part(d, one, 2, &state.resource_data, state.resource_length);
     put_numbers(d, two, state.height.0, state.renewal.0, bits);
     let three = put_held(d, two + 10, state.owner, state.value.0, state.highest.0);
     put_times(

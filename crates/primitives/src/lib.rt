@@ -10,14 +10,18 @@ ghost use Rattle.primitives.specs.Units.{sumOf, differenceOf};
 ghost use Rattle.primitives.specs.Outpoints.{sameOutpoint, isNull, outpointBytes, outpointAt, outpointPaper, shownOutpoint, noOutpoint};
 
 // An amount, in millionths of a coin.
+#[repr(C)]
 pub struct Dollarydoos(pub u64);
 
 // A block's height.
+#[repr(C)]
 pub struct Height(pub u32);
 
 // The key of a name: the hash of its bytes.
+#[repr(C)]
 pub struct NameHash(pub [u8; 32]);
 
+#[repr(C)]
 pub struct TransactionHash(pub [u8; 32]);
 
 // A sum or a difference of amounts, or why there is none: the Rust's `Result<Dollarydoos, ArithmeticError>`.
@@ -52,6 +56,7 @@ impl Dollarydoos {
 }
 
 // A transaction's output, by the transaction's hash and the output's number.
+#[repr(C)]
 pub struct Outpoint {
     pub transaction_hash: TransactionHash,
     pub index: u32,
@@ -86,7 +91,12 @@ impl Outpoint {
     pub fn is_null(self) -> bool
         ensures { λ r. ⌜ r ≡ isNull self ⌝ }
     {
-        self.same(Outpoint::NULL)
+        let null = Outpoint::NULL;
+        // Most outpoints differ in the index, and are told by it without a call.
+        if self.index != null.index {
+            return false;
+        }
+        self.same(null)
     }
 
     // The 36 bytes of a transaction's input.

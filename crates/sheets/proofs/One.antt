@@ -10,10 +10,11 @@ use Rattle.primitives.specs.declared.ReadOutpoint.{ReadOutpoint}
 use Rattle.primitives.proofs.One.{outpoint-same}
 use Rattle.sheets.specs.Sheet.{inputAt, placeAt, transactionCounts, coinCounts}
 use Rattle.sheets.specs.Viewer.{viewOf, viewBytes, viewPlace, exists}
-use Rattle.sheets.specs.Paper.{placePaper, sheetPaper}
+use Rattle.sheets.specs.Paper.{placePaper, sheetPaper, viewPaper}
 use Rattle.sheets.specs.declared.ReadPlace.{ReadPlace}
 use Rattle.sheets.specs.declared.SheetRead.{SheetRead}
-use Rattle.sheets.proofs.Same.{place-same, sheet-same}
+use Rattle.sheets.specs.declared.viewer.View.{View}
+use Rattle.sheets.proofs.Same.{place-same, sheet-same, view-same}
 
 pub input-at-one : (s : List ℕ) (at : ℕ) {r r′ : ReadOutpoint} → outpointPaper r ≡ shownOutpoint (inputAt s at) → outpointPaper r′ ≡ shownOutpoint (inputAt s at) → r ≡ r′
 input-at-one s at e f = outpoint-same (one e f)
@@ -36,6 +37,9 @@ module _ (tx coins : RefT (List ℕ)) (side index item : ℕ) where
 
   pub item-one : (r r′ : RefT (List ℕ)) → Says r → Says r′ → (r .now ≡ r′ .now) × (r .ptr ≡ r′ .ptr)
   item-one r r′ = one-each
+
+pub find-view-one : (tx coins : List ℕ) (side index item : ℕ) {r r′ : View} → viewPaper r ≡ viewOf tx coins side index item → viewPaper r′ ≡ viewOf tx coins side index item → r ≡ r′
+find-view-one tx coins side index item e f = view-same (one e f)
 
 pub has-item-one : (tx coins : List ℕ) (side index item : ℕ) {r r′ : Bool} → r ≡ exists (viewOf tx coins side index item) → r′ ≡ exists (viewOf tx coins side index item) → r ≡ r′
 has-item-one tx coins side index item = one

@@ -23,7 +23,7 @@ ghost use Rattle.sheets.specs.Walk.{outputsIn, coinsIn, itemBehind, coin
 ghost use Rattle.sheets.specs.Paper.{viewPaper};
 
 // In which sheet an item stands, from where on, and how long it is.
-enum View {
+pub enum View {
     Transaction { start: usize, len: usize },
     Coins { start: usize, len: usize },
     Nowhere,
@@ -100,7 +100,7 @@ fn coin_item(coins: &[u8], count: usize, record: usize, item: usize) -> Spot
 }
 
 // Both sheets are judged, and then the record's item is found.
-fn find_view(tx: &[u8], coins: &[u8], side: u8, record: usize, item: usize) -> View
+pub fn find_view(tx: &[u8], coins: &[u8], side: u8, record: usize, item: usize) -> View
     ensures { λ r. ⌜ viewPaper r ≡ viewOf (now (tx .entry)) (now (coins .entry)) side «record» item ⌝ }
 {
     match judge_transaction(tx) {

@@ -8,7 +8,6 @@ use Rattle.name_states.proofs.decode.judge.Lts as lts
 use Rattle.encoding.proofs.read.Cursor.finish.Reads as finish-reads
 use Rattle.name_state.proofs.NameState.bitmap.Reads as bitmap-reads
 use Rattle.name_state.proofs.NameState.validate_key_binding.Reads as validate-key-binding-reads
-use Rattle.name_states.proofs.decode.refused.Reads as refused-reads
 
 -- src/decode.rt:110:11
 finish-requires : tie.Need-finish-requires
@@ -31,37 +30,21 @@ bitmap-requires : tie.Need-bitmap-requires
 bitmap-requires c κs = search needs
 
 -- src/decode.rt:114:21
-refused-requires : tie.Need-refused-requires
-refused-requires c κs = search needs
-
--- src/decode.rt:114:21
 returns : tie.Need-returns
 unfolding judgedBits
-returns c = rw (← c .before .before .before .before .before .before .before .before .before .finish .ensures, c .before .before .before .before .before .before .before .end .given .1, ← c .before .before .before .before .before .validate-key-binding .ensures, c .before .before .before .enum-told .given .1, ← c .before .before .bitmap .ensures, ne-eqb _ _ (c .before .if1 .taken), c .refused .ensures .0, c .refused .ensures .1)
+returns c = rw (← c .before .before .before .before .before .before .before .before .finish .ensures, c .before .before .before .before .before .before .end .given .1, ← c .before .before .before .before .validate-key-binding .ensures, c .before .before .enum-told .given .1, ← c .before .bitmap .ensures, ne-eqb _ _ (c .if1 .taken))
 
 -- src/decode.rt:125:26
 enum-told-2 : tie.Need-enum-told-2
 enum-told-2 c = search needs
 
--- src/decode.rt:124:32
-refused-requires-2 : tie.Need-refused-requires-2
-refused-requires-2 c κs = search needs
-
 -- src/decode.rt:129:26
 enum-told-3 : tie.Need-enum-told-3
 enum-told-3 c = search needs
 
--- src/decode.rt:128:34
-refused-requires-3 : tie.Need-refused-requires-3
-refused-requires-3 c κs = search needs
-
 -- src/decode.rt:133:24
 enum-known-stop : tie.Need-enum-known-stop
 enum-known-stop c = search needs
-
--- src/decode.rt:133:33
-refused-requires-4 : tie.Need-refused-requires-4
-refused-requires-4 c κs = search needs
 
 -- src/decode.rt:107:1
 returns-2 : tie.Need-returns-2
@@ -71,17 +54,17 @@ returns-2 c = rw (← c .before .before .before .before .before .before .before 
 -- src/decode.rt:107:1
 returns-3 : tie.Need-returns-3
 unfolding judgedBits
-returns-3 c = rw (← c .before .before .before .before .before .before .before .finish .ensures, c .before .before .before .before .before .end .given .1, ← c .before .before .before .validate-key-binding .ensures, c .before .enum-told2 .given .1, c .refused2 .ensures .0, c .refused2 .ensures .1)
+returns-3 c = rw (← c .before .before .before .before .before .before .finish .ensures, c .before .before .before .before .end .given .1, ← c .before .before .validate-key-binding .ensures, c .enum-told2 .given .1)
 
 -- src/decode.rt:107:1
 returns-4 : tie.Need-returns-4
 unfolding judgedBits
-returns-4 c = rw (← c .before .before .before .before .before .before .before .finish .ensures, c .before .before .before .before .before .end .given .1, ← c .before .before .before .validate-key-binding .ensures, c .before .enum-told3 .given .1, c .refused3 .ensures .0, c .refused3 .ensures .1)
+returns-4 c = rw (← c .before .before .before .before .before .before .finish .ensures, c .before .before .before .before .end .given .1, ← c .before .before .validate-key-binding .ensures, c .enum-told3 .given .1)
 
 -- src/decode.rt:107:1
 returns-5 : tie.Need-returns-5
 unfolding judgedBits
-returns-5 c = rw (← c .before .before .before .before .finish .ensures, c .before .before .stop .given .1, c .refused4 .ensures .0, c .refused4 .ensures .1)
+returns-5 c = rw (← c .before .before .before .finish .ensures, c .before .stop .given .1)
 
 pub judge-spec : {M : Type 1} → statement M
 judge-spec =
@@ -92,14 +75,10 @@ judge-spec =
     validate-key-binding-requires
     enum-told
     bitmap-requires
-    refused-requires
     returns
     enum-told-2
-    refused-requires-2
     enum-told-3
-    refused-requires-3
     enum-known-stop
-    refused-requires-4
     returns-2
     returns-3
     returns-4

@@ -1,8 +1,10 @@
 use borrow.Author.Needs.{needs}
 use native.Mathlib.Omega.{arith}
 use Rattle.words.proofs.Le.{part-long}
+use Rattle.refusal.proofs.Outcomes.{told}
+use Rattle.encoding.specs.Paper.{movedPaper}
 use Rattle.name_states.specs.Read.{optionalAt, gathered}
-use Rattle.name_states.proofs.Stored.{judged-stored}
+use Rattle.name_states.proofs.Stored.{judged-told}
 use Rattle.name_states.proofs.decode.optional.Statement.{statement}
 use Rattle.name_states.proofs.decode.optional.Tie as tie
 use Rattle.name_states.proofs.decode.optional.Reads as reads
@@ -37,40 +39,50 @@ build-requires c κs = search needs
 judge-requires : tie.Need-judge-requires
 judge-requires c κs = search needs
 
--- src/decode.rt:152:32
-enum-known-stop : tie.Need-enum-known-stop
-enum-known-stop c = search needs
+enum-known-last : tie.Need-enum-known-last
+enum-known-last c = search needs
 
--- src/decode.rt:152:41
+enum-known-why : tie.Need-enum-known-why
+enum-known-why c = search needs
+
 refused-requires : tie.Need-refused-requires
 refused-requires c κs = search needs
 
--- src/decode.rt:154:30
-enum-known-read-2 : tie.Need-enum-known-read-2
-enum-known-read-2 c = search needs
+enum-known-stop : tie.Need-enum-known-stop
+enum-known-stop c = search needs
 
--- src/decode.rt:154:39
 refused-requires-2 : tie.Need-refused-requires-2
 refused-requires-2 c κs = search needs
 
--- src/decode.rt:138:1
+enum-known-read-2 : tie.Need-enum-known-read-2
+enum-known-read-2 c = search needs
+
+refused-requires-3 : tie.Need-refused-requires-3
+refused-requires-3 c κs = search needs
+
 returns : tie.Need-returns
 unfolding optionalAt gathered
 returns c =
-    let a = c .before .before .before .before .before .before .before .before .before .before .before .before .args in
-    let n = part-long (a .s .now) (a .texts .«name_at») (a .texts .«name_length») (omega (arith, c .before .before .before .before .before .before .before .before .before .before .before .before .pre)) in
-    let m = part-long (a .s .now) (a .texts .«resource_at») (a .texts .«resource_length») (omega (arith, c .before .before .before .before .before .before .before .before .before .before .before .before .pre)) in
-    rw (← c .before .before .before .before .before .before .before .before .before .before .read-held .ensures, c .before .before .before .before .before .before .before .read .given .1, ← c .before .before .before .before .before .read-times .ensures, c .before .before .before .times .given .1) (judged-stored _ _ _ _ (c .before .build .ensures) (omega (arith, n, c .before .before .before .before .before .before .before .before .before .before .before .before .pre)) (omega (arith, m, c .before .before .before .before .before .before .before .before .before .before .before .before .pre)) (c .judge .ensures))
+    let a = c .before .before .before .before .before .before .before .before .before .before .before .before .before .before .before .args in
+    let n = part-long (a .s .now) (a .texts .«name_at») (a .texts .«name_length») (omega (arith, c .before .before .before .before .before .before .before .before .before .before .before .before .before .before .before .pre)) in
+    let m = part-long (a .s .now) (a .texts .«resource_at») (a .texts .«resource_length») (omega (arith, c .before .before .before .before .before .before .before .before .before .before .before .before .before .before .before .pre)) in
+    rw (← c .before .before .before .before .before .before .before .before .before .before .before .before .before .read-held .ensures, c .before .before .before .before .before .before .before .before .before .before .read .given .1, ← c .before .before .before .before .before .before .before .before .read-times .ensures, c .before .before .before .before .before .before .times .given .1) (judged-told _ _ _ _ (c .before .before .before .before .build .ensures) (omega (arith, n, c .before .before .before .before .before .before .before .before .before .before .before .before .before .before .before .pre)) (omega (arith, m, c .before .before .before .before .before .before .before .before .before .before .before .before .before .before .before .pre)) (told movedPaper (c .before .before .before .judge .ensures) (c .before .last .given .1)))
 
--- src/decode.rt:138:1
 returns-2 : tie.Need-returns-2
-unfolding optionalAt
-returns-2 c = rw (← c .before .before .before .before .before .before .before .before .before .read-held .ensures, c .before .before .before .before .before .before .read .given .1, ← c .before .before .before .before .read-times .ensures, c .before .before .stop .given .1, c .refused .ensures .0, c .refused .ensures .1)
+unfolding optionalAt gathered
+returns-2 c =
+    let a = c .before .before .before .before .before .before .before .before .before .before .before .before .before .before .before .before .args in
+    let n = part-long (a .s .now) (a .texts .«name_at») (a .texts .«name_length») (omega (arith, c .before .before .before .before .before .before .before .before .before .before .before .before .before .before .before .before .pre)) in
+    let m = part-long (a .s .now) (a .texts .«resource_at») (a .texts .«resource_length») (omega (arith, c .before .before .before .before .before .before .before .before .before .before .before .before .before .before .before .before .pre)) in
+    rw (← c .before .before .before .before .before .before .before .before .before .before .before .before .before .before .read-held .ensures, c .before .before .before .before .before .before .before .before .before .before .before .read .given .1, ← c .before .before .before .before .before .before .before .before .before .read-times .ensures, c .before .before .before .before .before .before .before .times .given .1, c .refused .ensures .0, c .refused .ensures .1) (judged-told _ _ _ _ (c .before .before .before .before .before .build .ensures) (omega (arith, n, c .before .before .before .before .before .before .before .before .before .before .before .before .before .before .before .before .pre)) (omega (arith, m, c .before .before .before .before .before .before .before .before .before .before .before .before .before .before .before .before .pre)) (told movedPaper (c .before .before .before .before .judge .ensures) (c .before .before .why .given .1)))
 
--- src/decode.rt:138:1
 returns-3 : tie.Need-returns-3
 unfolding optionalAt
-returns-3 c = rw (← c .before .before .before .before .before .read-held .ensures, c .before .before .read2 .given .1, c .refused2 .ensures .0, c .refused2 .ensures .1)
+returns-3 c = rw (← c .before .before .before .before .before .before .before .before .before .read-held .ensures, c .before .before .before .before .before .before .read .given .1, ← c .before .before .before .before .read-times .ensures, c .before .before .stop .given .1, c .refused2 .ensures .0, c .refused2 .ensures .1)
+
+returns-4 : tie.Need-returns-4
+unfolding optionalAt
+returns-4 c = rw (← c .before .before .before .before .before .read-held .ensures, c .before .before .read2 .given .1, c .refused3 .ensures .0, c .refused3 .ensures .1)
 
 pub optional-spec : {M : Type 1} → statement M
 optional-spec =
@@ -82,10 +94,14 @@ optional-spec =
     enum-known-times
     build-requires
     judge-requires
-    enum-known-stop
+    enum-known-last
+    enum-known-why
     refused-requires
-    enum-known-read-2
+    enum-known-stop
     refused-requires-2
+    enum-known-read-2
+    refused-requires-3
     returns
     returns-2
-    returns-3)
+    returns-3
+    returns-4)

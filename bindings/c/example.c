@@ -1,0 +1,129 @@
+/*
+ * What a program in C does with the entries: it hashes, reads and writes a covenant and the state of a name, and judges sheets.
+ *
+ *     cc -I include bindings/c/example.c target/staticlib/libcapi.a -o example && ./example
+ *
+ * c/example.out has what it prints.
+ */
+#include "turgamysk.h"
+
+#include <stdio.h>
+#include <string.h>
+
+static void print_bytes(const char *label, const uint8_t *bytes, size_t length) {
+    printf("%s ", label);
+    for (size_t i = 0; i < length; i++) {
+        printf("%02x", bytes[i]);
+    }
+    printf("\n");
+}
+
+static void print_refusal(const char *label, uint8_t number, size_t first, size_t second, size_t position) {
+    printf("%s refused %u {%zu, %zu} at %zu\n", label, number, first, second, position);
+}
+
+static void hash(void) {
+    uint8_t digest[32];
+    const uint8_t nonce[32] = {7};
+    turgamysk_sha3_256((const uint8_t *)"abc", 3, digest);
+    print_bytes("sha3_256", digest, 32);
+    turgamysk_blake2b_256((const uint8_t *)"abc", 3, digest);
+    print_bytes("blake2b_256", digest, 32);
+    turgamysk_blake2b_256_value_nonce(1000000, nonce, digest);
+    print_bytes("blake2b_256_value_nonce", digest, 32);
+}
+
+static void read_covenant(const uint8_t *bytes, size_t length) {
+    /* The directory takes 16 kB; it is lent, so it may live anywhere. */
+    static size_t starts[1000], lens[1000];
+    turgamysk_covenant_answer answer = turgamysk_covenant_decode(bytes, length, starts, lens);
+    if (answer.number != 0) {
+        print_refusal("covenant", answer.number, answer.first, answer.second, answer.position);
+        return;
+    }
+    printf("covenant of kind %u with %zu items in %zu bytes\n", answer.kind, answer.count, answer.used);
+    for (size_t i = 0; i < answer.count; i++) {
+        print_bytes("  item", bytes + starts[i], lens[i]);
+    }
+    uint8_t again[64];
+    turgamysk_write_answer written = turgamysk_covenant_encode(again, sizeof again, answer.kind, bytes, length, starts, lens, answer.count);
+    print_bytes("written", again, written.written);
+    written = turgamysk_covenant_encode(again, 2, answer.kind, bytes, length, starts, lens, answer.count);
+    print_refusal("written", written.number, written.first, written.second, 0);
+}
+
+static void read_covenants(void) {
+    const uint8_t good[] = {9, 3, 1, 5, 0, 2, 0xaa, 0xbb};
+    const uint8_t longer_form[] = {0, 0xfd, 0xfc, 0};
+    read_covenant(good, sizeof good);
+    read_covenant(good, 7);
+    read_covenant(longer_form, sizeof longer_form);
+    turgamysk_covenant_answer answer = turgamysk_covenant_read(good, sizeof good, 4, 3);
+    printf("read at 4 under 3: number %u, kind %u, %zu items, %zu bytes\n", answer.number, answer.kind, answer.count, answer.used);
+    answer = turgamysk_covenant_read(good, sizeof good, 9, 1000009);
+    print_refusal("read at 9", answer.number, answer.first, answer.second, answer.position);
+}
+
+static void read_state(const uint8_t *key, const uint8_t *record, size_t length) {
+    turgamysk_state_answer answer = turgamysk_name_state_decode(key, record, length);
+    if (answer.number != 0) {
+        print_refusal("state", answer.number, answer.first, answer.second, answer.position);
+        return;
+    }
+    uint8_t again[668];
+    turgamysk_write_answer written = turgamysk_name_state_encode(answer.state, again, sizeof again);
+    printf("state of class %u, name %.*s, height %u\n", turgamysk_name_state_class(answer.state), (int)answer.state.name_length,
+           (const char *)answer.state.name, answer.state.height);
+    print_bytes("written", again, written.written);
+}
+
+static void read_states(void) {
+    const uint8_t zeros[13] = {0};
+    const uint8_t open[] = {4, 'd', 'e', 's', 'k', 0, 0, 100, 0, 0, 0, 100, 0, 0, 0, 0, 0};
+    uint8_t key[32] = {0};
+    read_state(key, zeros, sizeof zeros);
+    read_state(key, open, sizeof open);
+    printf("a reserved word: %u\n", turgamysk_hash_name((const uint8_t *)"localhost", 9, key));
+    printf("a name: %u\n", turgamysk_hash_name((const uint8_t *)"desk", 4, key));
+    print_bytes("key", key, 32);
+    read_state(key, open, sizeof open);
+    read_state(key, open, 3);
+}
+
+static void print_sheet(const char *label, turgamysk_sheet_answer answer) {
+    if (answer.number != 0) {
+        printf("%s refused %u {%zu, %zu} on side %u\n", label, answer.number, answer.first, answer.second, answer.side);
+        return;
+    }
+    printf("%s has %zu inputs, %zu outputs\n", label, answer.inputs, answer.outputs);
+}
+
+static void judge_sheets(void) {
+    /* No inputs, and one output: value 1, address of version 0 and no hash, a Bid with two items. */
+    const uint8_t tx[] = {0x10, 0, 0, 0x40, 0, 0, 0, 0, 0, 0, 0, 1, 0, 0, 3, 2, 1, 0xaa, 2, 0xbb, 0xcc};
+    const uint8_t coins[] = {0x14, 0, 0, 0};
+    print_sheet("transaction", turgamysk_judge_transaction(tx, sizeof tx));
+    print_sheet("coins", turgamysk_judge_coins(coins, sizeof coins));
+    print_sheet("coins as transaction", turgamysk_judge_transaction(coins, sizeof coins));
+    turgamysk_view_answer view = turgamysk_view_item(tx, sizeof tx, coins, sizeof coins, 0, 0, 1);
+    print_bytes("item", tx + view.offset, view.length);
+    view = turgamysk_view_item(tx, sizeof tx, coins, sizeof coins, 1, 0, 1);
+    printf("on the other side: %s\n", view.exists ? "an item" : "none");
+}
+
+static void read_numbers(void) {
+    const uint8_t bytes[] = {0xfd, 0xfd, 0, 0xfd, 0xfc, 0};
+    turgamysk_number_answer answer = turgamysk_read_compact_size(bytes, sizeof bytes, 0);
+    printf("compact size %llu, then at %zu\n", (unsigned long long)answer.value, answer.position);
+    answer = turgamysk_read_compact_size(bytes, sizeof bytes, answer.position);
+    print_refusal("compact size", answer.number, answer.first, answer.second, answer.position);
+}
+
+int main(void) {
+    hash();
+    read_numbers();
+    read_covenants();
+    read_states();
+    judge_sheets();
+    return 0;
+}

@@ -1,0 +1,88 @@
+//! Each entry of `include/turgamysk.h` as a safe function, with the answer that crosses the boundary.
+//!
+//! Every answer of the header begins with the refusal's number and three numbers that it carries; here these four are one part, [`Verdict`], which
+//! has the same layout.
+
+// Each call in these files hands over pointers to as many bytes as the header asks for, out of references that do not overlap. A reference to no
+// bytes is not null.
+
+mod covenants;
+mod hashes;
+mod items;
+mod links;
+mod sheets;
+mod states;
+mod wire;
+
+pub use covenants::*;
+pub use hashes::*;
+pub use items::*;
+pub use links::*;
+pub use sheets::*;
+pub use states::*;
+pub use wire::*;
+
+use crate::refusal::{Refusal, Stop};
+
+/// 32 bytes that an entry fills or takes.
+pub type Bytes32 = [u8; 32];
+
+/// The beginning of every answer: 0 and zeros, or a refusal.
+#[repr(C)]
+#[derive(Clone, Copy, Debug, Default, Eq, PartialEq)]
+pub struct Verdict {
+    /// 0, or the refusal's number in document 01's table.
+    pub number: u8,
+    /// What the refusal carries first,
+    pub first: usize,
+    /// second,
+    pub second: usize,
+    /// and third; zeros where it carries less.
+    pub third: usize,
+}
+
+impl Verdict {
+    /// Nothing is refused.
+    pub const ACCEPTED: Self = Self::refused(0, [0; 3]);
+
+    /// A refusal of this number, with what it carries.
+    pub const fn refused(number: u8, carried: [usize; 3]) -> Self {
+        let [first, second, third] = carried;
+        Self {
+            number,
+            first,
+            second,
+            third,
+        }
+    }
+
+    /// The refusal, if it is one.
+    pub(crate) fn result(self) -> Result<(), Refusal> {
+        if self.number == 0 {
+            return Ok(());
+        }
+        let carried = [self.first, self.second, self.third];
+        Err(Refusal::of_answer(self.number, carried))
+    }
+
+    /// The refusal of a read that left its reader at a position.
+    pub(crate) fn at(self, position: usize) -> Result<(), Stop> {
+        self.result().map_err(|refusal| Stop { refusal, position })
+    }
+}
+
+/// How many bytes were written, or the refusal; then nothing was written.
+#[repr(C)]
+#[derive(Clone, Copy, Debug, Default, Eq, PartialEq)]
+pub struct WriteAnswer {
+    /// Whether it was written.
+    pub verdict: Verdict,
+    /// The bytes written.
+    pub written: usize,
+}
+
+impl WriteAnswer {
+    pub(crate) fn result(self) -> Result<usize, Refusal> {
+        self.verdict.result().map(|()| self.written)
+    }
+}

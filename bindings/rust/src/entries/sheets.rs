@@ -1,0 +1,81 @@
+use super::Verdict;
+
+/// How many inputs (or coins) and outputs a sheet has, or the refusal and which sheet it is about. Unused parts are zeros.
+#[repr(C)]
+#[derive(Clone, Copy, Debug, Default, Eq, PartialEq)]
+pub struct SheetAnswer {
+    /// Whether the sheet is refused.
+    pub verdict: Verdict,
+    /// The sheet that was refused: 0 the transaction's, 1 the coins'.
+    pub side: u8,
+    /// Its inputs, or its coins.
+    pub inputs: usize,
+    /// Its outputs.
+    pub outputs: usize,
+}
+
+/// Where an item stands; zeros where there is none.
+#[repr(C)]
+#[derive(Clone, Copy, Debug, Default, Eq, PartialEq)]
+pub struct ViewAnswer {
+    /// Whether there is such an item.
+    pub exists: bool,
+    /// Where it begins.
+    pub offset: usize,
+    /// How many bytes it has.
+    pub length: usize,
+}
+
+impl ViewAnswer {
+    /// The item's bytes in what it stands in.
+    pub(crate) fn within(self, bytes: &[u8]) -> Option<&[u8]> {
+        if !self.exists {
+            return None;
+        }
+        bytes.get(self.offset..)?.get(..self.length)
+    }
+}
+
+mod c {
+    use super::*;
+
+    unsafe extern "C" {
+        pub fn turgamysk_judge_transaction(sheet: *const u8, length: usize) -> SheetAnswer;
+        pub fn turgamysk_judge_coins(sheet: *const u8, length: usize) -> SheetAnswer;
+        pub fn turgamysk_view_item(
+            tx: *const u8,
+            tx_length: usize,
+            coins: *const u8,
+            coins_length: usize,
+            side: u8,
+            index: usize,
+            item: usize,
+        ) -> ViewAnswer;
+    }
+}
+
+/// A transaction sheet, judged whole.
+pub fn judge_transaction(sheet: &[u8]) -> SheetAnswer {
+    unsafe { c::turgamysk_judge_transaction(sheet.as_ptr(), sheet.len()) }
+}
+
+/// A coin sheet, judged whole.
+pub fn judge_coins(sheet: &[u8]) -> SheetAnswer {
+    unsafe { c::turgamysk_judge_coins(sheet.as_ptr(), sheet.len()) }
+}
+
+/// Where an item of an output (side 0) or a coin (side 1) stands in the sheet of that side.
+pub fn view_item(tx: &[u8], coins: &[u8], side: u8, index: usize, item: usize) -> ViewAnswer {
+    let (tx_start, coins_start) = (tx.as_ptr(), coins.as_ptr());
+    unsafe {
+        c::turgamysk_view_item(
+            tx_start,
+            tx.len(),
+            coins_start,
+            coins.len(),
+            side,
+            index,
+            item,
+        )
+    }
+}

@@ -1,0 +1,165 @@
+//! Document 01's table of refusals.
+
+use core::error::Error;
+use core::fmt;
+
+/// Makes the enum of the table and what is told of each row: the row's number, its name and what it carries, in order.
+macro_rules! table {
+    ($($number:literal $name:ident { $($part:ident: $kind:ty),* } $rule:literal;)*) => {
+        /// Why something was refused: a row of document 01's table, with what it carries.
+        ///
+        /// ```
+        /// use turgamysk::Refusal;
+        ///
+        /// let refusal = Refusal::TooLarge { actual: 669, maximum: 668 };
+        /// assert_eq!((refusal.number(), refusal.name()), (5, "TooLarge"));
+        /// assert_eq!(refusal.carried(), [669, 668, 0]);
+        /// assert_eq!(Refusal::from_parts(5, [669, 668, 0]), Some(refusal));
+        /// ```
+        #[derive(Clone, Copy, Debug, Eq, Hash, PartialEq)]
+        pub enum Refusal {
+            $(
+                #[doc = concat!("Number ", $number, ": ", $rule, ".")]
+                #[allow(missing_docs)]
+                $name { $($part: $kind),* },
+            )*
+        }
+
+        impl Refusal {
+            /// The number in the table.
+            pub const fn number(&self) -> u8 {
+                match self {
+                    $(Self::$name { .. } => $number,)*
+                }
+            }
+
+            /// The name in the table.
+            pub const fn name(&self) -> &'static str {
+                match self {
+                    $(Self::$name { .. } => stringify!($name),)*
+                }
+            }
+
+            /// What it carries, in the table's order; zeros where it carries less.
+            pub fn carried(&self) -> [usize; 3] {
+                let mut carried = [0; 3];
+                match *self {
+                    $(Self::$name { $($part),* } => {
+                        let parts: &[usize] = &[$(usize::from($part)),*];
+                        carried[..parts.len()].copy_from_slice(parts);
+                    })*
+                }
+                carried
+            }
+
+            /// The refusal of a number and of what it carries; none for a number that is not in the table, a part that is too wide for
+            /// its field, or an unused part that is not zero.
+            pub fn from_parts(number: u8, carried: [usize; 3]) -> Option<Self> {
+                let mut parts = carried.into_iter();
+                let refusal = match number {
+                    $($number => Self::$name {
+                        $($part: parts.next()?.try_into().ok()?),*
+                    },)*
+                    _ => return None,
+                };
+                parts.all(|part| part == 0).then_some(refusal)
+            }
+        }
+    };
+}
+
+table! {
+    1 UnexpectedEnd { offset: usize, needed: usize } "a read is cut off: where it begins, and how many bytes are missing";
+    2 LengthExceedsBound { actual: usize, maximum: usize } "a length is above its maximum";
+    3 TrailingBytes { remaining: usize } "bytes are left where none may be";
+    4 InvalidValue { width: u8 } "a compact size of 16, 32 or 64 bits in a longer form than it needs";
+    5 TooLarge { actual: usize, maximum: usize } "more bytes or items than are allowed";
+    6 InvalidName {} "not a name";
+    7 InvalidNameState { reason: u8 } "1 name over 63, 2 resource over 512, 3 unknown bits, 4 owner index, 5 renewal count, 6 safe integer";
+    8 NonCanonicalNameState {} "the writer would not give the same bytes";
+    9 NameStateHashMismatch {} "the key is not the name's hash";
+    10 CoinbaseRequiresIssuanceVerifier {} "the first input is null";
+    11 InputCountMismatch { transaction: usize, coins: usize } "inputs and coins differ in number";
+    12 CoinOutpointMismatch { input: usize } "a coin is not the one that the input names";
+    13 MissingLinkedOutput { input: usize, kind: u8 } "the spent kind needs a partner";
+    14 InvalidTransition { input: usize, from: u8, to: u8 } "the partner's kind does not follow the spent one";
+    15 MalformedCovenant { input: usize, field: u8 } "an item is absent or of another width: 1 spent name, 2 created name, 3 spent start, 4 created start, 5 reveal nonce, 6 bid commitment, 7 transfer version, 8 transfer hash";
+    16 NameHashMismatch { input: usize } "the names differ";
+    17 StartHeightMismatch { input: usize } "the start heights differ";
+    18 BlindCommitmentMismatch { input: usize } "the bid's commitment is not the one of value and nonce";
+    19 BidValueInflation { input: usize } "the revealed value is above the coin's";
+    20 ClaimCannotRedeem { input: usize } "a Claim is not redeemed";
+    21 AddressMismatch { input: usize } "coin and partner differ in address";
+    22 LockedValueMismatch { input: usize } "coin and partner differ in value";
+    23 TransferDestinationMismatch { input: usize } "a Finalize goes to another address than the Transfer named";
+    24 RevokedCoinSpent { input: usize } "a Revoke is not spent";
+    25 UnknownCovenantCreatesName { input: usize, to: u8 } "an unknown kind does not make a name's covenant";
+    26 UnpairedLinkedOutput { output: usize, kind: u8 } "a linked output past the inputs";
+    27 SheetField { side: u8, offset: usize } "a fixed field of a sheet is wrong, and the byte where it begins";
+    28 SheetTooLong { side: u8, length: usize } "a sheet above its size";
+    29 NoRoom { needed: usize } "the destination is shorter than the bytes to be written";
+    30 BadItem { item: usize } "an item of a directory that lies outside its source";
+}
+
+impl Refusal {
+    /// The refusal of an answer that crossed the boundary, whose number the header says to be in the table.
+    pub(crate) fn of_answer(number: u8, carried: [usize; 3]) -> Self {
+        Self::from_parts(number, carried).expect("the header's promise: a row of the table")
+    }
+}
+
+impl fmt::Display for Refusal {
+    fn fmt(&self, formatter: &mut fmt::Formatter<'_>) -> fmt::Result {
+        write!(formatter, "refused {}, {self:?}", self.number())
+    }
+}
+
+impl Error for Refusal {}
+
+/// A refused read: the refusal, and the position where the reader then stands.
+#[derive(Clone, Copy, Debug, Eq, Hash, PartialEq)]
+pub struct Stop {
+    /// Why.
+    pub refusal: Refusal,
+    /// Where the reader stands: an unfinished fixed read stays at its start, a noncanonical compact size has been passed.
+    pub position: usize,
+}
+
+impl fmt::Display for Stop {
+    fn fmt(&self, formatter: &mut fmt::Formatter<'_>) -> fmt::Result {
+        write!(formatter, "{} at position {}", self.refusal, self.position)
+    }
+}
+
+impl Error for Stop {}
+
+#[cfg(test)]
+mod tests {
+    use super::Refusal;
+
+    #[test]
+    fn every_row_comes_back_from_its_parts() {
+        for number in 1..=30 {
+            let refusal = Refusal::from_parts(number, [1, 0, 0])
+                .or_else(|| Refusal::from_parts(number, [0, 0, 0]))
+                .unwrap();
+            assert_eq!(refusal.number(), number);
+            let again = Refusal::from_parts(number, refusal.carried());
+            assert_eq!(again, Some(refusal));
+        }
+    }
+
+    #[test]
+    fn no_other_number_is_a_row() {
+        for number in [0].into_iter().chain(31..=255) {
+            assert_eq!(Refusal::from_parts(number, [0; 3]), None);
+        }
+    }
+
+    #[test]
+    fn parts_that_do_not_fit_give_no_refusal() {
+        assert_eq!(Refusal::from_parts(4, [256, 0, 0]), None);
+        assert_eq!(Refusal::from_parts(6, [1, 0, 0]), None);
+        assert_eq!(Refusal::from_parts(5, [1, 2, 3]), None);
+    }
+}

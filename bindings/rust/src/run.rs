@@ -1,0 +1,91 @@
+//! Covenants back to back.
+
+use crate::covenant::{Covenant, CovenantKind, ReadCovenant};
+use crate::entries;
+use crate::refusal::Stop;
+
+/// How a run ended, and how many covenants it had before that.
+#[derive(Clone, Copy, Debug, Eq, PartialEq)]
+pub struct RunEnd {
+    /// The covenants handed out.
+    pub count: usize,
+    /// What stopped the run; none where its bytes ended between two covenants.
+    pub stop: Option<Stop>,
+}
+
+/// Hands out back-to-back covenants, each under the same allowance, until no bytes are left or one is refused.
+///
+/// ```
+/// use turgamysk::{Refusal, Run, read_run};
+///
+/// let mut run = Run::new(&[0, 0, 3, 0, 3]);
+/// assert_eq!(run.next().unwrap().unwrap().kind.0, 0);
+/// assert_eq!(run.next().unwrap().unwrap().kind.0, 3);
+/// let stop = run.next().unwrap().unwrap_err();
+/// assert_eq!(stop.refusal, Refusal::UnexpectedEnd { offset: 5, needed: 1 });
+/// assert!(run.next().is_none());
+///
+/// assert_eq!(read_run(&[0, 0, 3, 0], 1_000_009).count, 2);
+/// ```
+#[derive(Clone, Debug)]
+pub struct Run<'input> {
+    bytes: &'input [u8],
+    limit: usize,
+    position: usize,
+    count: usize,
+    is_over: bool,
+}
+
+impl<'input> Run<'input> {
+    /// A run with the allowance of 1,000,009 for each covenant.
+    pub const fn new(bytes: &'input [u8]) -> Self {
+        Self::with_limit(bytes, Covenant::MAX_ENCODED_SIZE)
+    }
+
+    /// A run with another allowance for each covenant.
+    pub const fn with_limit(bytes: &'input [u8], limit: usize) -> Self {
+        Self {
+            bytes,
+            limit,
+            position: 0,
+            count: 0,
+            is_over: false,
+        }
+    }
+
+    /// How many covenants were handed out.
+    pub const fn covenants(&self) -> usize {
+        self.count
+    }
+}
+
+impl Iterator for Run<'_> {
+    type Item = Result<ReadCovenant, Stop>;
+
+    fn next(&mut self) -> Option<Self::Item> {
+        if self.is_over {
+            return None;
+        }
+        let step = entries::covenant_run_next(self.bytes, self.limit, self.position, self.count);
+        self.is_over = step.ended || step.verdict.number != 0;
+        self.position = step.position;
+        self.count = step.covenants;
+        if step.ended {
+            return None;
+        }
+        Some(step.verdict.at(step.position).map(|()| ReadCovenant {
+            kind: CovenantKind(step.kind),
+            count: step.count,
+            used: step.used,
+        }))
+    }
+}
+
+/// Reads a whole run to its end.
+pub fn read_run(bytes: &[u8], limit: usize) -> RunEnd {
+    let answer = entries::covenant_read_run(bytes, limit);
+    RunEnd {
+        count: answer.covenants,
+        stop: answer.verdict.at(answer.position).err(),
+    }
+}

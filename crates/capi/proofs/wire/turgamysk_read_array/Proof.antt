@@ -1,0 +1,28 @@
+use borrow.Author.Needs.{needs}
+use native.Mathlib.Omega.{arith}
+use mathlib.Core.Path.{_≡_, refl, ap, sym, _∙_}
+use Prim.Native.Nat.{ℕ}
+use mathlib.Core.List.{List}
+use Rattle.refusal.specs.Outcome.{Outcome}
+use Rattle.capi.specs.Reading.{movedFlat}
+use Rattle.capi.proofs.wire.turgamysk_read_array.Statement.{statement}
+use Rattle.capi.proofs.wire.turgamysk_read_array.Tie as tie
+use Rattle.capi.proofs.wire.turgamysk_read_array.Reads as reads
+use Rattle.capi.proofs.wire.turgamysk_read_array.Lts as lts
+use Rattle.capi.proofs.wire.moved_answer.Reads as moved-answer-reads
+use Rattle.encoding.proofs.read.Cursor.read_array.Reads as read-array-reads
+
+-- src/wire.rt:319:9
+read-array-requires : tie.Need-read-array-requires
+read-array-requires c κs = search needs
+
+-- src/wire.rt:323:5
+moved-answer-requires : tie.Need-moved-answer-requires
+moved-answer-requires c κs = search needs
+
+-- src/wire.rt:309:1
+returns : tie.Need-returns
+returns c = (c .moved-answer .ensures ∙ ap (λ (t : Outcome Unit × List ℕ). movedFlat (t .0)) (c .before .before .read-array .ensures), ap (λ (t : Outcome Unit × List ℕ). t .1) (c .before .before .read-array .ensures))
+
+pub turgamysk-read-array-spec : {M : Type 1} → statement M
+turgamysk-read-array-spec = tie.close (tie.spec read-array-requires moved-answer-requires returns)

@@ -1,0 +1,27 @@
+-- Answers over names and name states as flat structs.
+use Prim.Native.Nat.{ℕ}
+use mathlib.Core.List.{List}
+use lib.ListN.{getD}
+use Rattle.refusal.specs.Outcome.{Outcome, ok, err}
+use Rattle.name_state.specs.declared.NameState.{NameState}
+use Rattle.name_state.specs.declared.Class.{Class}
+use Rattle.capi.specs.declared.states.StateAnswer.{StateAnswer}
+
+-- the refusal's number, 0 where there is none
+abbrev pub refusedBy : {A : Type 0} → Outcome A → ℕ
+refusedBy (ok a p) = 0
+refusedBy (err k vs p) = k
+
+-- a reader's outcome, and the state that stands beside it
+abbrev pub withState : Outcome Unit → NameState → StateAnswer
+withState (ok u p) n = record { number = 0; first = 0; second = 0; third = 0; position = p; state = n }
+withState (err k vs p) n = record { number = k; first = getD vs 0 0; second = getD vs 1 0; third = getD vs 2 0; position = p; state = n }
+
+abbrev pub stateFlat : Outcome Unit × NameState → StateAnswer
+stateFlat d = withState (d .0) (d .1)
+
+-- "CLASS is null, or held if the owner isn't null, else free": numbered in that order
+abbrev pub classNumber : Class → ℕ
+classNumber Class.Null = 0
+classNumber Class.Held = 1
+classNumber Class.Free = 2

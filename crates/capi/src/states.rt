@@ -1,0 +1,163 @@
+// Names and name states.
+use crate::WriteAnswer;
+use crate::write_answer;
+use encoding::read::Moved;
+use name_state::Class;
+use name_state::NameState;
+use name_states::decode::Decoded;
+use name_states::decode::decode;
+use name_states::encode::encode;
+use name_states::encode::encoded_size;
+use names::blind_bid;
+use names::hash_name;
+use names::validate_name;
+use primitives::Dollarydoos;
+use primitives::NameHash;
+use refusal::carried_by;
+use refusal::number;
+ghost use mathlib.Core.Path.{_≡_};
+ghost use mathlib.Core.List.{[]};
+ghost use Rattle.words.specs.Buffers.{pick};
+ghost use Rattle.names.specs.Name.{validName, nameHash};
+ghost use Rattle.names.specs.Paper.{shownHash};
+ghost use Rattle.names.specs.Blind.{blindOf};
+ghost use Rattle.name_state.specs.State.{null, sameState};
+ghost use Rattle.name_state.specs.Paper.{stateOf, stored, nullState, classOf};
+ghost use Rattle.name_states.specs.Written.{checkedSize, encodeAnswer, encodeContent};
+ghost use Rattle.name_states.specs.Read.{readState};
+ghost use Rattle.name_states.specs.Paper.{decodedPaper, shownState};
+ghost use Rattle.capi.specs.Flat.{writeFlat};
+ghost use Rattle.capi.specs.States.{refusedBy, stateFlat, classNumber};
+
+// ---- names
+
+#[no_mangle]
+pub extern "C" fn turgamysk_validate_name(name: &[u8]) -> u8
+    ensures { λ r. ⌜ r ≡ pick (validName (now (name .entry))) 0 6 ⌝ }
+{
+    if validate_name(name) {
+        return 0;
+    }
+    6
+}
+
+#[no_mangle]
+pub extern "C" fn turgamysk_hash_name(name: &[u8], digest: &mut [u8; 32]) -> u8
+    ensures { λ r. ⌜ r ≡ refusedBy (nameHash (now (name .entry))) ⌝ }
+    ensures { λ _. ⌜ now (digest .exit) ≡ shownHash (nameHash (now (name .entry))) .1 ⌝ }
+{
+    let hashed = hash_name(name);
+    let hash = hashed.hash;
+    let d = hash.0;
+    *digest = d;
+    if hashed.valid {
+        return 0;
+    }
+    6
+}
+
+#[no_mangle]
+pub extern "C" fn turgamysk_blind_bid(value: u64, nonce: &[u8; 32], digest: &mut [u8; 32])
+    ensures { λ _. ⌜ now (digest .exit) ≡ blindOf value (now (nonce .entry)) ⌝ }
+{
+    let d = blind_bid(Dollarydoos(value), nonce);
+    *digest = d;
+}
+
+// ---- name states
+
+// A state that was read, or the refusal, and then zeros for a state.
+#[repr(C)]
+pub struct StateAnswer {
+    pub number: u8,
+    pub first: usize,
+    pub second: usize,
+    pub third: usize,
+    pub position: usize,
+    pub state: NameState,
+}
+
+fn state_answer(decoded: Decoded) -> StateAnswer
+    ensures { λ r. ⌜ r ≡ stateFlat (decodedPaper decoded) ⌝ }
+{
+    let state = decoded.state;
+    let read = decoded.read;
+    match read {
+        Moved::To(next) => StateAnswer {
+            number: 0,
+            first: 0,
+            second: 0,
+            third: 0,
+            position: next.position,
+            state,
+        },
+        Moved::Refused(stop) => {
+            let refusal = stop.refusal;
+            let carried = carried_by(refusal);
+            StateAnswer {
+                number: number(refusal),
+                first: carried.first,
+                second: carried.second,
+                third: carried.third,
+                position: stop.position,
+                state,
+            }
+        }
+    }
+}
+
+#[no_mangle]
+pub extern "C" fn turgamysk_name_state_decode(key: &[u8; 32], bytes: &[u8]) -> StateAnswer
+    ensures { λ r. ⌜ r ≡ stateFlat (shownState (readState (now (key .entry)) (now (bytes .entry)))) ⌝ }
+{
+    let k = *key;
+    state_answer(decode(NameHash(k), bytes))
+}
+
+#[no_mangle]
+pub extern "C" fn turgamysk_name_state_encode(state: NameState, dest: &mut [u8]) -> WriteAnswer
+    ensures { λ r. ⌜ r ≡ writeFlat (encodeAnswer (stateOf state) (now (dest .entry))) ⌝ }
+    ensures { λ _. ⌜ now (dest .exit) ≡ encodeContent (stateOf state) (now (dest .entry)) ⌝ }
+{
+    write_answer(encode(state, dest))
+}
+
+#[no_mangle]
+pub extern "C" fn turgamysk_name_state_encoded_size(state: NameState) -> WriteAnswer
+    ensures { λ r. ⌜ r ≡ writeFlat (checkedSize (stateOf state)) ⌝ }
+{
+    write_answer(encoded_size(state))
+}
+
+#[no_mangle]
+pub extern "C" fn turgamysk_name_state_class(state: NameState) -> u8
+    ensures { λ r. ⌜ r ≡ classNumber (classOf (stateOf state)) ⌝ }
+{
+    match state.class() {
+        Class::Null => 0,
+        Class::Held => 1,
+        Class::Free => 2,
+    }
+}
+
+#[no_mangle]
+pub extern "C" fn turgamysk_name_state_is_null(state: NameState) -> bool
+    ensures { λ r. ⌜ r ≡ null (stateOf state) ⌝ }
+{
+    state.is_null()
+}
+
+#[no_mangle]
+pub extern "C" fn turgamysk_name_state_null(key: &[u8; 32]) -> NameState
+    ensures { λ r. ⌜ r ≡ stored (nullState (now (key .entry)) []) ⌝ }
+{
+    let k = *key;
+    NameState::null(NameHash(k))
+}
+
+#[no_mangle]
+pub extern "C" fn turgamysk_name_state_same(state: NameState, other: NameState) -> bool
+    ensures { λ r. ⌜ r ≡ sameState (stateOf state) (stateOf other) ⌝ }
+{
+    state.same(other)
+}
