@@ -1,0 +1,100 @@
+/* Sheets: judged whole, and their items viewed. */
+#include "walk.h"
+
+#include <string.h>
+
+enum { RECORDS_CHECKED = 4, ITEMS_CHECKED = 5 };
+
+static region transaction_region, coins_region, changed_region;
+
+/* A sheet above its size is refused for that first, and one of its size is not; too long for a payload, so it is tried once. */
+static void check_longest(uint8_t side) {
+    static const uint8_t zeros[LARGEST_SHEET + 1];
+    static region longest_region;
+    make_input_region(&longest_region, sizeof zeros);
+    sheet longest = judge(&longest_region, AGAINST_END, zeros, LARGEST_SHEET, side);
+    REQUIRE(same_verdict(VERDICT(longest.answer), (verdict){27, side, 0, 0}));
+    sheet longer = judge(&longest_region, AGAINST_END, zeros, LARGEST_SHEET + 1, side);
+    REQUIRE(same_verdict(VERDICT(longer.answer), (verdict){28, side, LARGEST_SHEET + 1, 0}));
+}
+
+void prepare(void) {
+    make_input_region(&transaction_region, LONGEST_PAYLOAD);
+    make_input_region(&coins_region, LONGEST_PAYLOAD);
+    make_input_region(&changed_region, LONGEST_PAYLOAD + 1);
+    check_longest(TRANSACTION);
+    check_longest(COINS);
+}
+
+/* An accepted sheet without its last bytes is cut off, and with one more has a trailing byte. */
+static void check_changed_length(const sheet *of, const uint8_t *payload, uint8_t chosen) {
+    static uint8_t longer[LONGEST_PAYLOAD + 1];
+    size_t left = of->length - 1 - chosen % of->length;
+    sheet cut = judge(&changed_region, of->where, payload, left, of->side);
+    REQUIRE(cut.answer.number == 1);
+    memcpy(longer, payload, of->length);
+    longer[of->length] = chosen;
+    sheet more = judge(&changed_region, of->where, longer, of->length + 1, of->side);
+    REQUIRE(same_verdict(VERDICT(more.answer), (verdict){3, 1, 0, 0}));
+}
+
+static turgamysk_view_answer view(const sheet *transaction, const sheet *coins, uint8_t side, size_t index, size_t item) {
+    turgamysk_view_answer answer = turgamysk_view_item(transaction->bytes, transaction->length, coins->bytes, coins->length, side, index, item);
+    observed(ENTRY_view_item, answer.exists, answer.offset, answer.length);
+    witness(answer.exists);
+    witness(answer.offset);
+    witness(answer.length);
+    REQUIRE(answer.exists || (answer.offset == 0 && answer.length == 0));
+    return answer;
+}
+
+/* What the viewer gives is inside the sheet, and is what the covenant has there. */
+static void check_view(const sheet *transaction, const sheet *coins, const sheet *of, size_t index, size_t item) {
+    turgamysk_view_answer answer = view(transaction, coins, of->side, index, item);
+    if (index >= record_count(of)) {
+        REQUIRE(!answer.exists);
+        return;
+    }
+    place record = record_place(of, index);
+    turgamysk_view_answer found = turgamysk_covenant_find(of->bytes, of->length, record.covenant, item);
+    REQUIRE(answer.exists == found.exists && answer.offset == found.offset && answer.length == found.length);
+    REQUIRE(!answer.exists || (record.covenant < answer.offset && answer.offset + answer.length <= record.end));
+}
+
+static void check_views(const sheet *transaction, const sheet *coins, const sheet *of, size_t index, size_t item) {
+    check_view(transaction, coins, of, index, item);
+    for (size_t i = 0; i < RECORDS_CHECKED && i <= record_count(of); i++) {
+        for (size_t j = 0; j < ITEMS_CHECKED; j++) {
+            check_view(transaction, coins, of, i, j);
+        }
+    }
+}
+
+/* There is none on another side, or if either sheet is refused. */
+static void check_no_view(const sheet *transaction, const sheet *coins, size_t index, size_t item, uint8_t chosen) {
+    REQUIRE(!view(transaction, coins, chosen < 2 ? 2 : chosen, index, item).exists);
+    if (transaction->answer.number != 0 || coins->answer.number != 0) {
+        REQUIRE(!view(transaction, coins, TRANSACTION, index % 4, item % 4).exists);
+        REQUIRE(!view(transaction, coins, COINS, index % 4, item % 4).exists);
+    }
+}
+
+void play(test_case given) {
+    size_t split = transaction_length(&given);
+    uint8_t chosen = choose_byte(&given.choose);
+    size_t index = choose_number(&given.choose, 1023);
+    size_t item = choose_number(&given.choose, DIRECTORY_SLOTS);
+    sheet transaction = judge(&transaction_region, given.where, given.payload, split, TRANSACTION);
+    sheet coins = judge(&coins_region, given.where, given.payload + split, given.length - split, COINS);
+    if (transaction.answer.number == 0) {
+        check_changed_length(&transaction, given.payload, chosen);
+    }
+    if (coins.answer.number == 0) {
+        check_changed_length(&coins, given.payload + split, chosen);
+    }
+    if (transaction.answer.number == 0 && coins.answer.number == 0) {
+        check_views(&transaction, &coins, &transaction, index, item);
+        check_views(&transaction, &coins, &coins, index, item);
+    }
+    check_no_view(&transaction, &coins, index, item, chosen);
+}
