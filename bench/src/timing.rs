@@ -1,12 +1,14 @@
 //! The time of a call, as the best of many batches. The sides' batches take turns, so that a busy machine slows them alike.
 
+use crate::clock;
 use std::time::{Duration, Instant};
 
-/// A batch is short, so that some of them run undisturbed, and long against the clock's own cost.
-const BATCH: Duration = Duration::from_micros(60);
-const BATCHES: usize = 3000;
-/// One call may take longer than a batch; then there are fewer of them.
-const LONGEST: Duration = Duration::from_secs(4);
+/// A batch is short, so that some of them run undisturbed, and long against the clock's own cost, of some 0.3 µs.
+const BATCH: Duration = Duration::from_micros(150);
+const BATCHES: usize = 1500;
+/// One call may take longer than a batch; then there are fewer of them, but not fewer than these.
+const FEWEST: usize = 15;
+const LONGEST: Duration = Duration::from_secs(1);
 
 pub struct Side<'a> {
     pub name: &'static str,
@@ -23,10 +25,14 @@ impl<'a> Side<'a> {
         Side { name, run }
     }
 
-    fn time(&mut self, calls: u32) -> Duration {
-        let start = Instant::now();
+    pub fn run(&mut self, calls: u32) {
         (self.run)(calls);
-        start.elapsed()
+    }
+
+    fn time(&mut self, calls: u32) -> Duration {
+        let start = clock::now();
+        self.run(calls);
+        clock::now() - start
     }
 
     /// How many calls make a batch; it also warms the caches.
@@ -41,18 +47,17 @@ impl<'a> Side<'a> {
 
 /// The nanoseconds of one call of each side.
 pub fn race(sides: &mut [Side]) -> Vec<f64> {
-    let calls = sides.iter_mut().map(Side::calls).min().unwrap_or(1);
-    let mut best = vec![Duration::MAX; sides.len()];
+    let calls: Vec<u32> = sides.iter_mut().map(Side::calls).collect();
+    let mut best = vec![f64::INFINITY; sides.len()];
     let start = Instant::now();
     for batch in 0..BATCHES {
-        if batch >= 50 && start.elapsed() > LONGEST {
+        if batch >= FEWEST && start.elapsed() > LONGEST {
             break;
         }
-        for (side, best) in sides.iter_mut().zip(&mut best) {
-            *best = side.time(calls).min(*best);
+        for ((side, calls), best) in sides.iter_mut().zip(&calls).zip(&mut best) {
+            let time = side.time(*calls).as_nanos() as f64 / f64::from(*calls);
+            *best = time.min(*best);
         }
     }
-    best.iter()
-        .map(|time| time.as_nanos() as f64 / f64::from(calls))
-        .collect()
+    best
 }

@@ -23,7 +23,7 @@ use Rattle.names.specs.Name.{validName, nameHash}
 use Rattle.names.specs.Paper.{shownHash}
 use Rattle.names.specs.Blind.{blindOf}
 use Rattle.name_state.specs.State.{null, sameState}
-use Rattle.name_state.specs.Paper.{stateOf, stored, nullState, classOf}
+use Rattle.name_state.specs.Paper.{stateOf, stored, nullState, classOf, classNumber}
 use Rattle.name_state.specs.declared.NameState.{NameState}
 use Rattle.name_states.specs.Written as states
 use Rattle.name_states.specs.Read.{readState}
@@ -34,7 +34,7 @@ use Rattle.links.specs.Verify.{verifyOf}
 use Rattle.capi.specs.Linkage.{linksFlat}
 use Rattle.capi.specs.declared.linkage.LinksAnswer.{LinksAnswer}
 use Rattle.capi.specs.Flat.{covenantFlat, writeFlat}
-use Rattle.capi.specs.States.{refusedBy, stateFlat, classNumber}
+use Rattle.capi.specs.States.{refusedBy, stateFlat}
 use Rattle.capi.specs.Sheet.{sheetFlat, viewFlat}
 use Rattle.capi.specs.Reading.{numberFlat, spanFlat, movedFlat, outpointFlat}
 use Rattle.capi.specs.Items.{stepFlat, runFlat, placeFlat, itemFlat}

@@ -1,10 +1,8 @@
 -- Answers over names and name states as flat structs.
 use Prim.Native.Nat.{ℕ}
-use mathlib.Core.List.{List}
 use lib.ListN.{getD}
 use Rattle.refusal.specs.Outcome.{Outcome, ok, err}
 use Rattle.name_state.specs.declared.NameState.{NameState}
-use Rattle.name_state.specs.declared.Class.{Class}
 use Rattle.capi.specs.declared.states.StateAnswer.{StateAnswer}
 
 -- the refusal's number, 0 where there is none
@@ -19,9 +17,3 @@ withState (err k vs p) n = record { number = k; first = getD vs 0 0; second = ge
 
 abbrev pub stateFlat : Outcome Unit × NameState → StateAnswer
 stateFlat d = withState (d .0) (d .1)
-
--- "CLASS is null, or held if the owner isn't null, else free": numbered in that order
-abbrev pub classNumber : Class → ℕ
-classNumber Class.Null = 0
-classNumber Class.Held = 1
-classNumber Class.Free = 2

@@ -22,12 +22,12 @@ ghost use Rattle.names.specs.Name.{validName, nameHash};
 ghost use Rattle.names.specs.Paper.{shownHash};
 ghost use Rattle.names.specs.Blind.{blindOf};
 ghost use Rattle.name_state.specs.State.{null, sameState};
-ghost use Rattle.name_state.specs.Paper.{stateOf, stored, nullState, classOf};
+ghost use Rattle.name_state.specs.Paper.{stateOf, stored, nullState, classOf, classNumber};
 ghost use Rattle.name_states.specs.Written.{checkedSize, encodeAnswer, encodeContent};
 ghost use Rattle.name_states.specs.Read.{readState};
 ghost use Rattle.name_states.specs.Paper.{decodedPaper, shownState};
 ghost use Rattle.capi.specs.Flat.{writeFlat};
-ghost use Rattle.capi.specs.States.{refusedBy, stateFlat, classNumber};
+ghost use Rattle.capi.specs.States.{refusedBy, stateFlat};
 
 // ---- names
 

@@ -1,5 +1,5 @@
 -- Two results that meet a contract coincide, for each public function.
-use mathlib.Core.Path.{_≡_}
+use mathlib.Core.Path.{_≡_, ap₂}
 use Prim.Native.Nat.{ℕ}
 use mathlib.Core.Bool.{Bool}
 use mathlib.Core.List.{List}
@@ -17,6 +17,7 @@ use Rattle.covenants.proofs.Same.{covenant-same, decoded-same, spot-sam
 use Rattle.covenants.specs.declared.ReadCovenant.{ReadCovenant}
 use Rattle.covenants.specs.declared.decode.Decoded.{Decoded}
 use Rattle.covenants.specs.declared.items.Spot.{Spot}
+use Rattle.covenants.specs.declared.items.Two.{Two}
 use Rattle.covenants.specs.declared.items.ItemU8.{ItemU8}
 use Rattle.covenants.specs.declared.items.ItemU32.{ItemU32}
 use Rattle.covenants.specs.declared.items.ItemU64.{ItemU64}
@@ -74,6 +75,12 @@ module _ (s : List ℕ) (spot : Spot) where
 
 pub find-one : (s : List ℕ) (at index : ℕ) {r r′ : Spot} → spotPaper r ≡ seekAt s at index → spotPaper r′ ≡ seekAt s at index → r ≡ r′
 find-one s at index e f = spot-same (one e f)
+
+abbrev two : Spot → Spot → Two
+two first second = record { first = first; second = second }
+
+pub find-two-one : (s : List ℕ) (at : ℕ) {r r′ : Two} → (spotPaper (r .first) ≡ seekAt s at 0) × (spotPaper (r .second) ≡ seekAt s at 1) → (spotPaper (r′ .first) ≡ seekAt s at 0) × (spotPaper (r′ .second) ≡ seekAt s at 1) → r ≡ r′
+find-two-one s at e f = let w = one-each e f in ap₂ two (spot-same (w .0)) (spot-same (w .1))
 
 -- ---- over a directory
 

@@ -15,6 +15,8 @@ ghost use mathlib.Core.Path.{_≡_};
 ghost use mathlib.Core.Bool.{true, false};
 ghost use Prim.Native.Nat.{_≤_};
 ghost use Rattle.refusal.specs.Outcome.{then, manyAt};
+ghost use lib.Dec.{ltb};
+ghost use Rattle.words.specs.Buffers.{pick};
 ghost use Rattle.covenants.specs.Covenant.{itemAt};
 ghost use Rattle.covenants.specs.Items.{absent, found, directoryItem, seekAt, wide, numberIn};
 ghost use Rattle.covenants.specs.Paper.{spotPaper, itemU8Paper, itemU32Paper, itemU64Paper, nameHashPaper, shownHash};
@@ -38,6 +40,12 @@ pub enum ItemU32 {
 pub enum ItemU64 {
     Value(u64),
     Absent,
+}
+
+// Where the first item stands, and where the second does.
+pub struct Two {
+    pub first: Spot,
+    pub second: Spot,
 }
 
 // A name hash, zeros where there is none.
@@ -244,5 +252,69 @@ pub fn find(c: Cursor, s: &[u8], index: usize) -> Spot
             scan(next, s, c.position, index)
         }
         ReadHead::Refused(_) => Spot::Absent,
+    }
+}
+
+// The second item, where there are as many: the first ends at `from`.
+fn second_item(from: Cursor, s: &[u8], start: usize, count: usize) -> Spot
+    requires { ⌜ start ≤ from .position ⌝ }
+    ensures { λ r. ⌜ spotPaper r ≡ pick (ltb 1 count) (found (itemAt 1000009 start (now (s .entry)) (from .position))) absent ⌝ }
+{
+    if count <= 1 {
+        return Spot::Absent;
+    }
+    match crate::item(from, s, start, Covenant::MAX_ENCODED_SIZE) {
+        ReadSpan::Span {
+            start: at,
+            len,
+            next: _,
+        } => Spot::Part { start: at, len },
+        ReadSpan::Refused(_) => Spot::Absent,
+    }
+}
+
+// The first two of so many items, of a covenant that began at `start` and whose first item stands at `from`.
+fn first_two(from: Cursor, s: &[u8], start: usize, count: usize) -> Two
+    requires { ⌜ start ≤ from .position ⌝ }
+    ensures { λ r. ⌜ (spotPaper (r .first) ≡ found (itemAt 1000009 start (now (s .entry)) (from .position))) × (spotPaper (r .second) ≡ pick (ltb 1 count) (found (then (manyAt (itemAt 1000009 start (now (s .entry))) 1 (from .position)) (λ before next. itemAt 1000009 start (now (s .entry)) next))) absent) ⌝ }
+{
+    match crate::item(from, s, start, Covenant::MAX_ENCODED_SIZE) {
+        ReadSpan::Span {
+            start: at,
+            len,
+            next,
+        } => Two {
+            first: Spot::Part { start: at, len },
+            second: second_item(next, s, start, count),
+        },
+        ReadSpan::Refused(_) => Two {
+            first: Spot::Absent,
+            second: Spot::Absent,
+        },
+    }
+}
+
+// Items 0 and 1 of the covenant that stands at c, by one scan.
+pub fn find_two(c: Cursor, s: &[u8]) -> Two
+    ensures { λ r. ⌜ (spotPaper (r .first) ≡ seekAt (now (s .entry)) (c .position) 0) × (spotPaper (r .second) ≡ seekAt (now (s .entry)) (c .position) 1) ⌝ }
+{
+    match head(c, s, Covenant::MAX_ENCODED_SIZE) {
+        ReadHead::Head {
+            kind: _,
+            count,
+            next,
+        } => {
+            if count == 0 {
+                return Two {
+                    first: Spot::Absent,
+                    second: Spot::Absent,
+                };
+            }
+            first_two(next, s, c.position, count)
+        }
+        ReadHead::Refused(_) => Two {
+            first: Spot::Absent,
+            second: Spot::Absent,
+        },
     }
 }

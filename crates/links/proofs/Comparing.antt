@@ -9,6 +9,10 @@ use lib.Dec.{eqb}
 use borrow.Author.Tests.{eq-eqb, ne-eqb}
 use Rattle.words.specs.Buffers.{pick}
 use Rattle.words.specs.Sameness.{same}
+use Rattle.covenants.specs.Items.{seekAt}
+use Rattle.covenants.specs.Paper.{spotPaper}
+use Rattle.covenants.specs.declared.items.Spot.{Spot}
+use Rattle.covenants.specs.declared.items.Two.{Two}
 use Rattle.links.specs.Rules.{Step, passes, breaks, after, check, agree, nameAndStart}
 use Rattle.links.specs.Workers.{widthOf}
 
@@ -26,6 +30,15 @@ module _ (i k width field : ℕ) (xs ys : List (List ℕ)) where
   pub agree-both : {x y : List ℕ} → getD xs k [] ≡ x → length x ≡ width → getD ys k [] ≡ y → length y ≡ width → (number : ℕ) → agree i k width field number xs ys ≡ check (same x y) number (i ∷ [])
   unfolding agree
   agree-both p l q m number = rw (p, eq-eqb _ _ l, q, eq-eqb _ _ m)
+
+-- the first two items of the covenant that stands there, found together; item 0 or item 1 of them
+abbrev pub FoundTwo : List ℕ → ℕ → Two → Type 0
+FoundTwo s at two = (spotPaper (two .first) ≡ seekAt s at 0) × (spotPaper (two .second) ≡ seekAt s at 1)
+
+pub nth-found : (s : List ℕ) (at : ℕ) (two : Two) → FoundTwo s at two → (k : ℕ) → k < 2 → {r : Spot} → r ≡ pick (eqb k 0) (two .first) (two .second) → spotPaper r ≡ seekAt s at k
+nth-found s at two p zero h e = ap spotPaper e ∙ p .0
+nth-found s at two p (suc zero) h e = ap spotPaper e ∙ p .1
+nth-found s at two p (suc (suc k)) h e = absurd (omega arith)
 
 -- ---- name and start: what the items from the k-th on have to say
 

@@ -1,3 +1,5 @@
+pub mod Below
+pub mod Alike
 pub mod Comparing
 pub mod Judging
 pub mod Unpaired

@@ -5,11 +5,7 @@ use native.Mathlib.Omega.{arith}
 use native.Mathlib.Numerals.{add-one}
 use mathlib.Core.List.{List, [], _∷_, map}
 use mathlib.Core.Bool.{Bool, true, false}
-use lib.ListN.{length, drop, getD}
-use lib.Dec.{eqb}
-use borrow.Author.Tests.{eq-eqb, ne-eqb}
-use Rattle.words.specs.Sameness.{same}
-use Rattle.words.proofs.Sameness.{and-false, same-next, same-stop, same-end}
+use lib.ListN.{length}
 use Rattle.refusal.specs.Outcome.{Outcome, ok, manyAt}
 use Rattle.refusal.proofs.Many.{Next, many-next, many-none}
 use Rattle.primitives.specs.declared.Outpoint.{Outpoint}
@@ -44,42 +40,6 @@ pub outpoint-is : (s : List ℕ) (at : ℕ) {x y : Outpoint} {next : ℕ} → x 
 outpoint-is s at e f = e ∙ ap (λ (o : Outcome Outpoint). shownOutpoint o .1) f
 
 -- ---- one input, on lists
-
--- two outpoints whose hashes agree in their first j bytes
-pub record Agreeing (x y : Outpoint) (j : ℕ) : Type 0 where
-  pub bound : j ≤ 32
-  pub long : (length (x .«transaction_hash» .0) ≡ 32) × (length (y .«transaction_hash» .0) ≡ 32)
-  pub rest : same (drop j (x .«transaction_hash» .0)) (drop j (y .«transaction_hash» .0)) ≡ same (x .«transaction_hash» .0) (y .«transaction_hash» .0)
-
-pub index-differs : (x y : Outpoint) → (x .index ≡ y .index → ⊥) → sameOutpoint x y ≡ false
-unfolding sameOutpoint
-index-differs x y h = rw (ne-eqb _ _ h)
-
-pub none-compared : (x y : Outpoint) → length (x .«transaction_hash» .0) ≡ 32 → length (y .«transaction_hash» .0) ≡ 32 → Agreeing x y 0
-none-compared x y p q = record { bound = omega arith; long = (p, q); rest = refl }
-
-module _ (x y : Outpoint) {j : ℕ} (r : Agreeing x y j) where
-  pub byte-same : j < 32 → getD (x .«transaction_hash» .0) j 0 ≡ getD (y .«transaction_hash» .0) j 0 → Agreeing x y (j + 1)
-  byte-same h e =
-      record {
-        bound = omega arith;
-        long = r .long;
-        rest = sym (same-next (x .«transaction_hash» .0) (y .«transaction_hash» .0) j (omega (arith, r .long)) (omega (arith, r .long)) e) ∙ r .rest;
-      }
-
-  pub byte-differs : j < 32 → (getD (x .«transaction_hash» .0) j 0 ≡ getD (y .«transaction_hash» .0) j 0 → ⊥) → sameOutpoint x y ≡ false
-  unfolding sameOutpoint
-  byte-differs h e =
-      let s : same (x .«transaction_hash» .0) (y .«transaction_hash» .0) ≡ false =
-      sym (r .rest) ∙ same-stop (x .«transaction_hash» .0) (y .«transaction_hash» .0) j (omega (arith, r .long)) (omega (arith, r .long)) e
-      in rw s (and-false (eqb (x .index) (y .index)))
-
-  pub all-same : 32 ≤ j → x .index ≡ y .index → sameOutpoint x y ≡ true
-  unfolding sameOutpoint
-  all-same h e =
-      let s : same (x .«transaction_hash» .0) (y .«transaction_hash» .0) ≡ true =
-      sym (r .rest) ∙ same-end (x .«transaction_hash» .0) (y .«transaction_hash» .0) j (omega (arith, r .long, r .bound)) (omega (arith, r .long, r .bound))
-      in rw (eq-eqb _ _ e, s)
 
 module _ (coins : List ℕ) (i outs names : ℕ) (x : Outpoint) (xs : List Outpoint) (c : Outpoint × Place) (cs : List (Outpoint × Place)) (os : List Output) where
   abbrev Here : Verdict

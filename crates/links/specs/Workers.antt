@@ -1,6 +1,6 @@
 -- Words of the functions that judge one input, and of their proofs; no outsider reads them.
 use mathlib.Core.Path.{_≡_}
-use Prim.Native.Nat.{ℕ, _+_, _≤_}
+use Prim.Native.Nat.{ℕ, _+_, _^_, _≤_, _<_}
 use mathlib.Core.List.{List, [], _∷_}
 use mathlib.Core.Bool.{_&&_}
 use lib.ListN.{length, getD}
@@ -9,7 +9,9 @@ use Rattle.words.specs.Buffers.{pick}
 use Rattle.words.specs.Sameness.{same}
 use Rattle.refusal.specs.Outcome.{ok}
 use Rattle.refusal.specs.Paper.{numberOf, carried}
-use Rattle.covenants.specs.Items.{Maybe, absent}
+use Rattle.covenants.specs.Items.{Maybe, absent, seekAt}
+use Rattle.covenants.specs.Paper.{spotPaper}
+use Rattle.covenants.specs.declared.items.Spot.{Spot}
 use Rattle.covenants.specs.Covenant.{Reading, covenantAt, bytesIn}
 use Rattle.sheets.specs.Sheet.{Output, itemsFrom}
 use Rattle.links.specs.Rules.{Step, passes, breaks, after, check, oneOf, agree, bidRule, revealRule, ownedRule, transferRule, freeRule, unknownRule, paired}
@@ -37,6 +39,15 @@ Pairs coins tx spent made i k width field (Pair.At a b) =
     × ((number : ℕ) → agree i k width field number (itemsFrom coins spent) (itemsFrom tx made) ≡ check (same (bytesIn coins (a, width)) (bytesIn tx (b, width))) number (i ∷ []))
 Pairs coins tx spent made i k width field (Pair.Breaks r) =
     (number : ℕ) → agree i k width field number (itemsFrom coins spent) (itemsFrom tx made) ≡ breaks (numberOf r) (carried r)
+
+-- the same of any item that was found where a spot says, in any covenant that can be read
+abbrev pub SpotSizes : Spot → ℕ → Sized → Type 0
+SpotSizes spot width r = (s : List ℕ) (at k : ℕ) → length s < 2 ^ 64 → Readable s at → spotPaper spot ≡ seekAt s at k → Sizes s at k width r
+
+abbrev pub SpotPairs : ℕ → Spot → Spot → ℕ → ℕ → Pair → Type 0
+SpotPairs i a b width field r =
+    (coins tx : List ℕ) (spent made k : ℕ) → (length coins < 2 ^ 64) × (length tx < 2 ^ 64) → Readable coins spent → Readable tx made
+    → spotPaper a ≡ seekAt coins spent k → spotPaper b ≡ seekAt tx made k → Pairs coins tx spent made i k width field r
 
 -- the end of `destination`, from the transfer's version on
 abbrev pub namedAddress : ℕ → Output → Output → ℕ → Step

@@ -1,6 +1,8 @@
 // One input against the rules: what is spent, and its partner.
 use covenants::items::Spot;
+use covenants::items::Two;
 use covenants::items::find;
+use covenants::items::find_two;
 use covenants::kind;
 use encoding::read::Cursor;
 use names::blind_bid;
@@ -25,7 +27,7 @@ ghost use Rattle.sheets.specs.Sheet.{outputOf};
 ghost use Rattle.links.specs.Rules as rules;
 ghost use Rattle.links.specs.Rules.{passes, breaks, after, check, oneOf, sameAddress, nameAndStart, committed, bidRule, revealRule, ownedRule, transferRule, rule};
 ghost use Rattle.links.specs.Paper.{stepPaper, partnerOf, Standing, Partnered};
-ghost use Rattle.links.specs.Workers.{Readable, widthOf, Sizes, Pairs, namedAddress, rowOf, rowRule, Alone};
+ghost use Rattle.links.specs.Workers.{Readable, widthOf, Sizes, SpotSizes, SpotPairs, namedAddress, rowOf, rowRule, Alone};
 
 // An input passes, and its partner is linked or not; or it breaks a rule.
 pub(crate) enum Step {
@@ -59,13 +61,12 @@ fn same_part(s: &[u8], a: usize, n: usize, t: &[u8], b: usize, m: usize) -> bool
     same_bytes(&s[a..a + n], &t[b..b + m])
 }
 
-// Item k of the covenant that stands there, if it has the width.
-fn sized_item(s: &[u8], covenant: usize, k: usize, width: usize) -> Sized
-    requires { ⌜ (0 < width) × Readable (now s) covenant ⌝ }
-    ensures { λ r. ⌜ Sizes (now (s .entry)) covenant k width r ⌝ }
+// Where an item stands, if it has the width.
+fn of_width(spot: Spot, width: usize) -> Sized
+    requires { ⌜ 0 < width ⌝ }
+    ensures { λ r. ⌜ SpotSizes spot width r ⌝ }
 {
-    let c = Cursor { position: covenant };
-    match find(c, s, k) {
+    match spot {
         Spot::Part { start, len } => {
             if len == width {
                 return Sized::At(start);
@@ -76,24 +77,24 @@ fn sized_item(s: &[u8], covenant: usize, k: usize, width: usize) -> Sized
     }
 }
 
-// Item k of both covenants, of that width: else 15, with the field or the next one.
-fn both_items(
-    tx: &[u8],
-    coins: &[u8],
-    input: usize,
-    spent: usize,
-    made: usize,
-    k: usize,
-    width: usize,
-    field: u8,
-) -> Pair
-    requires { ⌜ (0 < width) × (field < 255) × Readable (now coins) spent × Readable (now tx) made ⌝ }
-    ensures { λ r. ⌜ Pairs (now (coins .entry)) (now (tx .entry)) spent made input k width field r ⌝ }
+// Item k of the covenant that stands there, if it has the width.
+fn sized_item(s: &[u8], covenant: usize, k: usize, width: usize) -> Sized
+    requires { ⌜ (0 < width) × Readable (now s) covenant ⌝ }
+    ensures { λ r. ⌜ Sizes (now (s .entry)) covenant k width r ⌝ }
 {
-    let Sized::At(a) = sized_item(coins, spent, k, width) else {
+    let c = Cursor { position: covenant };
+    of_width(find(c, s, k), width)
+}
+
+// An item of both covenants, of that width: else 15, with the field or the next one.
+fn both_items(input: usize, spent: Spot, made: Spot, width: usize, field: u8) -> Pair
+    requires { ⌜ (0 < width) × (field < 255) ⌝ }
+    ensures { λ r. ⌜ SpotPairs input spent made width field r ⌝ }
+{
+    let Sized::At(a) = of_width(spent, width) else {
         return Pair::Breaks(Refusal::MalformedCovenant { input, field });
     };
-    let Sized::At(b) = sized_item(tx, made, k, width) else {
+    let Sized::At(b) = of_width(made, width) else {
         return Pair::Breaks(Refusal::MalformedCovenant {
             input,
             field: field + 1,
@@ -103,6 +104,16 @@ fn both_items(
         spent: a,
         created: b,
     }
+}
+
+// Item 0 or item 1.
+fn nth(items: Two, k: usize) -> Spot
+    ensures { λ r. ⌜ r ≡ pick (eqb k 0) (items .first) (items .second) ⌝ }
+{
+    if k == 0 {
+        return items.first;
+    }
+    items.second
 }
 
 // A name hash is 32 bytes wide, a start height 4.
@@ -131,6 +142,18 @@ fn name_and_start(tx: &[u8], coins: &[u8], input: usize, spent: Place, made: Pla
     requires { ⌜ Standing (now coins) spent × Standing (now tx) made ⌝ }
     ensures { λ r. ⌜ stepPaper r ≡ nameAndStart input (outputOf (now (coins .entry)) spent .items) (outputOf (now (tx .entry)) made .items) ⌝ }
 {
+    let spent_items = find_two(
+        Cursor {
+            position: spent.covenant,
+        },
+        coins,
+    );
+    let made_items = find_two(
+        Cursor {
+            position: made.covenant,
+        },
+        tx,
+    );
     let mut k: usize = 0;
     let answer = 'items: loop {
         if 2 <= k {
@@ -138,12 +161,9 @@ fn name_and_start(tx: &[u8], coins: &[u8], input: usize, spent: Place, made: Pla
         }
         let width = width_of(k);
         match both_items(
-            tx,
-            coins,
             input,
-            spent.covenant,
-            made.covenant,
-            k,
+            nth(spent_items, k),
+            nth(made_items, k),
             width,
             (k * 2 + 1) as u8,
         ) {

@@ -14,6 +14,7 @@ use refusal::Refusal;
 use sheets::ReadPlace;
 use sheets::input_at;
 use sheets::place_at;
+use words::load::load_u64;
 ghost use mathlib.Core.Path.{_≡_};
 ghost use Prim.Native.Nat.{_+_, _-_, _*_, _≤_, _<_, _^_};
 ghost use Rattle.primitives.specs.Outpoints.{shownOutpoint};
@@ -53,10 +54,20 @@ pub(crate) fn answered(links: Links) -> Verified
     }
 }
 
-// The coin of an input has another outpoint.
-fn mismatch(input: usize, expected: Outpoint, actual: Outpoint) -> Verified
-    ensures { λ r. ⌜ verifiedPaper r ≡ told (differs input expected actual) ⌝ }
+// The outpoint of an input or a coin.
+pub(crate) fn outpoint_at(s: &[u8], at: usize) -> Outpoint
+    ensures { λ r. ⌜ r ≡ shownOutpoint (inputAt (now (s .entry)) at) .1 ⌝ }
 {
+    let read = input_at(Cursor { position: at }, s);
+    read.outpoint
+}
+
+// The coin of an input has another outpoint: both are read for the answer.
+fn mismatch(tx: &[u8], coins: &[u8], input: usize, at: usize, coin: usize) -> Verified
+    ensures { λ r. ⌜ verifiedPaper r ≡ told (differs input (shownOutpoint (inputAt (now (tx .entry)) at) .1) (shownOutpoint (inputAt (now (coins .entry)) coin) .1)) ⌝ }
+{
+    let expected = outpoint_at(tx, at);
+    let actual = outpoint_at(coins, coin);
     Verified {
         links: Links::Refused {
             refusal: Refusal::CoinOutpointMismatch { input },
@@ -65,14 +76,6 @@ fn mismatch(input: usize, expected: Outpoint, actual: Outpoint) -> Verified
         expected,
         actual,
     }
-}
-
-// The outpoint of an input or a coin.
-pub(crate) fn outpoint_at(s: &[u8], at: usize) -> Outpoint
-    ensures { λ r. ⌜ r ≡ shownOutpoint (inputAt (now (s .entry)) at) .1 ⌝ }
-{
-    let read = input_at(Cursor { position: at }, s);
-    read.outpoint
 }
 
 // The partner, where outputs are left.
@@ -186,7 +189,8 @@ fn remaining(outputs: usize, i: usize) -> usize
     outputs - i
 }
 
-// The inputs in order, each fully before the next: a head has 4 bytes, an outpoint 36. The first rule broken anywhere ends it.
+// The inputs in order, each fully before the next: a head has 4 bytes, an outpoint 36. The first rule broken anywhere ends it. The outpoints are
+// compared where they stand, by words: four for the hash, and one whose last half is the index.
 pub(crate) fn walk(tx: &[u8], coins: &[u8], n: usize, outputs: usize) -> Verified
     requires { ⌜ Sheets (now tx) (now coins) n outputs n ⌝ }
     ensures { λ r. ⌜ verifiedPaper r ≡ told (linksFrom 0 0 0 (inputsIn (now (tx .entry)) n) (coinsIn (now (coins .entry)) n) (outputsIn (now (tx .entry)) outputs (4 + n * 36))) ⌝ }
@@ -202,19 +206,15 @@ pub(crate) fn walk(tx: &[u8], coins: &[u8], n: usize, outputs: usize) -> Verifie
             let left = remaining(outputs, n);
             break 'inputs trailing(tx, output_position, n, left, linked_outputs, name_inputs);
         }
-        let expected = outpoint_at(tx, input_position);
-        let actual = outpoint_at(coins, coin_position);
-        let expected_hash = expected.transaction_hash.0;
-        let actual_hash = actual.transaction_hash.0;
         let mut j: usize = 0;
         while j < 32 {
-            if expected_hash[j] != actual_hash[j] {
-                break 'inputs mismatch(i, expected, actual);
+            if load_u64(tx, input_position + j) != load_u64(coins, coin_position + j) {
+                break 'inputs mismatch(tx, coins, i, input_position, coin_position);
             }
-            j += 1;
+            j += 8;
         }
-        if expected.index != actual.index {
-            break 'inputs mismatch(i, expected, actual);
+        if load_u64(tx, input_position + 28) != load_u64(coins, coin_position + 28) {
+            break 'inputs mismatch(tx, coins, i, input_position, coin_position);
         }
         let left = remaining(outputs, i);
         match follow(tx, coins, i, coin_position + 36, output_position, left) {

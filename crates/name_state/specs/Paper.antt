@@ -97,3 +97,9 @@ abbrev pub boundPaper : Binding → ℕ
 boundPaper Binding.Bound = 0
 boundPaper Binding.NoName = 6
 boundPaper Binding.OtherKey = 9
+
+-- the class as a number, where no enum can stand
+abbrev pub classNumber : Class → ℕ
+classNumber Class.Null = 0
+classNumber Class.Held = 1
+classNumber Class.Free = 2

@@ -11,8 +11,9 @@ ghost use mathlib.Core.Bool.{_&&_};
 ghost use mathlib.Core.List.{[]};
 ghost use Prim.Native.Nat.{ℕ, _≤_};
 ghost use lib.Dec.{eqb};
-ghost use Rattle.name_state.specs.State.{null, bit, bitmap, binding};
-ghost use Rattle.name_state.specs.Paper.{stateOf, stored, nullState, ownerOf, classOf, boundPaper};
+ghost use Rattle.names.specs.Name.{nameHash};
+ghost use Rattle.name_state.specs.State.{null, bit, bitmap, keyed, binding};
+ghost use Rattle.name_state.specs.Paper.{text, stateOf, stored, nullState, ownerOf, classOf, boundPaper};
 
 pub mod comparison;
 
@@ -89,6 +90,26 @@ fn flag(present: bool, weight: u16) -> u16
         return weight;
     }
     0
+}
+
+// The key is the hash of the name, which is hashed here once.
+fn name_binding(name: [u8; 63], n: usize, key: NameHash) -> Binding
+    ensures { λ r. ⌜ boundPaper r ≡ keyed (nameHash (text n name)) (key .0) ⌝ }
+{
+    if 63 < n {
+        return Binding::NoName;
+    }
+    let hashed = hash_name(&name[..n]);
+    if !hashed.valid {
+        return Binding::NoName;
+    }
+    let found = hashed.hash;
+    let a = found.0;
+    let b = key.0;
+    if same_bytes(&a, &b) {
+        return Binding::Bound;
+    }
+    Binding::OtherKey
 }
 
 impl NameState {
@@ -216,7 +237,7 @@ impl NameState {
         owned + amounts + times + renewed + flags
     }
 
-    // Nothing binds a null state; else the key is the hash of the name, which is hashed here once.
+    // Nothing binds a null state.
     pub fn validate_key_binding(self) -> Binding
         ensures { λ r. ⌜ boundPaper r ≡ binding (stateOf self) ⌝ }
     {
@@ -224,21 +245,6 @@ impl NameState {
             return Binding::Bound;
         }
         let name = self.name;
-        let n = self.name_length;
-        if 63 < n {
-            return Binding::NoName;
-        }
-        let hashed = hash_name(&name[..n]);
-        if !hashed.valid {
-            return Binding::NoName;
-        }
-        let found = hashed.hash;
-        let own = self.name_hash;
-        let a = found.0;
-        let b = own.0;
-        if same_bytes(&a, &b) {
-            return Binding::Bound;
-        }
-        Binding::OtherKey
+        name_binding(name, self.name_length, self.name_hash)
     }
 }

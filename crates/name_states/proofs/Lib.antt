@@ -10,3 +10,4 @@ pub mod Short
 pub mod Theorems
 pub mod Same
 pub mod One
+pub mod Decoded

@@ -10,7 +10,7 @@ use Rattle.primitives.specs.Outpoints.{outpoint}
 use Rattle.primitives.specs.declared.Outpoint.{Outpoint}
 use Rattle.primitives.specs.declared.ReadOutpoint.{ReadOutpoint}
 use Rattle.name_state.specs.State.{State}
-use Rattle.name_state.specs.Paper.{stored}
+use Rattle.name_state.specs.Paper.{stateOf, stored}
 use Rattle.name_state.specs.declared.NameState.{NameState}
 use Rattle.name_states.specs.declared.read.Texts.{Texts}
 use Rattle.name_states.specs.declared.read.ReadTexts.{ReadTexts}
@@ -56,6 +56,10 @@ beside (err k vs p) n = (err k vs p, zeros)
 abbrev pub shownState : Outcome State → Outcome Unit × NameState
 shownState (ok t p) = (ok tt p, stored t)
 shownState (err k vs p) = (err k vs p, zeros)
+
+-- the reader's answer as what was read (proofs/Decoded.antt: it is `readState`)
+abbrev pub decodedState : Decoded → Outcome State
+decodedState d = then (movedPaper (d .read)) (λ u p. ok (stateOf (d .state)) p)
 
 -- ---- the answers on the way
 abbrev pub textsOf : Texts → (ℕ × ℕ) × (ℕ × ℕ)

@@ -216,8 +216,10 @@ fn put_record(state: NameState, d: &mut [u8])
     ensures { λ _. ⌜ now (d .exit) ≡ over 0 (stateBytes (stateOf state)) (now (d .entry)) ⌝ }
 {
     let bits = state.bitmap();
-    let one = put_part(d, 0, 1, &state.name, state.name_length);
-    let two = put_part(d, one, 2, &state.resource_data, state.resource_length);
+    let name = state.name;
+    let one = put_part(d, 0, 1, &name, state.name_length);
+    let resource = state.resource_data;
+    let two = put_part(d, one, 2, &resource, state.resource_length);
     put_numbers(d, two, state.height.0, state.renewal.0, bits);
     let three = put_held(d, two + 10, state.owner, state.value.0, state.highest.0);
     put_times(

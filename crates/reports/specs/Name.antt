@@ -6,11 +6,9 @@ use lib.Dec.{ltb}
 use Rattle.words.specs.Buffers.{pick}
 use Rattle.refusal.specs.Outcome.{Outcome, ok, err, then}
 use Rattle.name_state.specs.State.{State}
-use Rattle.encoding.specs.Paper.{movedPaper}
-use Rattle.name_state.specs.Paper.{classOf, stateOf}
+use Rattle.name_state.specs.Paper.{classOf}
 use Rattle.name_state.specs.declared.Class.{Class}
 use Rattle.name_states.specs.Read.{readState}
-use Rattle.name_states.specs.declared.decode.Decoded.{Decoded}
 use Rattle.reports.specs.Text.{decimal, newline, refusedLine}
 
 -- "CLASS is null, or held if the owner isn't null, else free"
@@ -37,7 +35,3 @@ stateLine size (err k vs p) = refusedLine k
 -- "`state.bin`: 32 key bytes, then the record (fewer than 32, or no file: `refused 1`)"
 unfoldable pub nameLine : List ℕ → List ℕ
 nameLine file = pick (ltb (length file) 32) (refusedLine 1) (stateLine (length file - 32) (readState (take 32 file) (drop 32 file)))
-
--- ---- the reader's answer as what was read, for the code on the way (proofs/Decoded.antt: it is `readState`)
-abbrev pub decodedState : Decoded → Outcome State
-decodedState d = then (movedPaper (d .read)) (λ u p. ok (stateOf (d .state)) p)

@@ -21,7 +21,8 @@ ghost use Rattle.refusal.specs.Outcome.{ok};
 ghost use Rattle.encoding.specs.Wire.{putAnswer};
 ghost use Rattle.encoding.specs.Paper.{putPaper};
 ghost use Rattle.name_state.specs.Paper.{stateOf};
-ghost use Rattle.reports.specs.Name.{className, stateLine, nameLine, decodedState};
+ghost use Rattle.name_states.specs.Paper.{decodedState};
+ghost use Rattle.reports.specs.Name.{className, stateLine, nameLine};
 
 fn put_class(d: &mut [u8], at: usize, class: Class) -> usize
     requires { ⌜ at + 4 ≤ length (now d) ⌝ }

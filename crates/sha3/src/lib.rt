@@ -35,17 +35,17 @@ fn absorb_block(s: &mut [u64; 25], m: &[u8], at: usize)
     *s = b;
 }
 
-// The last block: what is left of the message from `at` on, the bits 01 and the padding.
-fn last_block(m: &[u8], at: usize) -> [u8; 136]
+// The last block absorbed: what is left of the message from `at` on, the bits 01 and the padding.
+fn absorb_last(s: &mut [u64; 25], m: &[u8], at: usize)
     requires { ⌜ (at % 136 ≡ 0) × (at ≤ length (now m)) × (length (now m) < at + 136) ⌝ }
-    ensures { λ r. ⌜ bitsOf 8 r ≡ drop (8 * at) (padded pad101 1088 (suffixed (now (m .entry)))) ⌝ }
+    ensures { λ _. ⌜ now (s .exit) ≡ block keccakP 1088 (now (s .entry)) (drop (8 * at) (padded pad101 1088 (suffixed (now (m .entry))))) ⌝ }
 {
     let n = m.len() - at;
     let mut b = [0u8; 136];
     put_bytes(&mut b, 0, &m[at..]);
     b[n] = 0x06;
     b[135] = b[135] | 0x80;
-    b
+    absorb_block(s, &b, 0);
 }
 
 // The first 256 bits of the state, as bytes.
@@ -65,7 +65,6 @@ pub fn sha3_256(m: &[u8]) -> [u8; 32]
         absorb_block(&mut s, m, at);
         at += 136;
     }
-    let b = last_block(m, at);
-    absorb_block(&mut s, &b, 0);
+    absorb_last(&mut s, m, at);
     squeeze(s)
 }

@@ -1,180 +1,126 @@
-//! The cases that are recorded: random ones, of which each class of answers keeps some.
+//! The cases that are recorded: chosen ones, and random ones of which each class of answers keeps some.
 
-use super::{Record, Recorder};
-use crate::covenants::build;
-use crate::name_states::build::{Record as Fields, key, state};
+use super::{Book, Record, Records, entry};
+use crate::covenants::build::{self, compact_forms, put_covenant};
+use crate::name_states::build::{Record as Fields, key};
 use crate::name_states::original;
-use crate::names::put_name;
-use crate::oracle::{self, Refused, covenant_error, guarded};
+use crate::names::{RESERVED, put_name};
+use crate::oracle::{self, covenant_error, guarded};
 use crate::random::Random;
 use crate::sheets::build::{self as sheets, Sheets, fault};
 use crate::sheets::judge::damage_one;
-use crate::sheets::parse::{self, Spot};
 use crate::sheets::verify;
-use blake2b_simd::Params;
-use hns_covenants::{Covenant, CovenantKind};
-use sha3::{Digest, Sha3_256};
+use turgamysk::Outpoint;
 use turgamysk::entries::{CovenantAnswer, Verdict};
-use turgamysk::{NameState, Outpoint};
 
-/// So many random cases are drawn of each entry.
+/// So many random cases are drawn of each kind.
 const DRAWN: usize = 100_000;
-/// What stands in a destination before a write.
-const PATTERN: u8 = 0xee;
+/// Longer arguments are rarely kept.
+const SHORT: usize = 300;
 
-/// The entries, by their numbers in the file.
-mod entry {
-    pub const SHA3_256: u64 = 1;
-    pub const BLAKE2B_256: u64 = 2;
-    pub const BLIND_BID: u64 = 3;
-    pub const HASH_NAME: u64 = 4;
-    pub const COVENANT_READ: u64 = 5;
-    pub const COVENANT_DECODE: u64 = 6;
-    pub const COVENANT_ENCODE: u64 = 7;
-    pub const COVENANT_READ_RUN: u64 = 8;
-    pub const NAME_STATE_DECODE: u64 = 9;
-    pub const NAME_STATE_ENCODE: u64 = 10;
-    pub const JUDGE_TRANSACTION: u64 = 11;
-    pub const JUDGE_COINS: u64 = 12;
-    pub const VIEW_ITEM: u64 = 13;
-    pub const VERIFY_COVENANT_LINKS: u64 = 14;
+pub fn offer_all(book: &mut Book) {
+    covenants(&mut book.covenants, &mut Random::new(1));
+    states(&mut book.states, &mut Random::new(2));
+    links(&mut book.links, &mut Random::new(3));
+    names(&mut book.names, &mut Random::new(4));
 }
 
-pub fn offer_all(recorder: &mut Recorder) {
-    let mut random = Random::new(1);
-    for length in (0..=300)
-        .step_by(7)
-        .chain([135, 136, 137, 127, 128, 129, 1000])
-    {
-        hashes(recorder, length, &mut random);
-    }
-    samples(recorder);
-    hostile_writes(recorder);
-    for _ in 0..DRAWN {
-        names(recorder, &mut random);
-        covenant(recorder, &mut random);
-        covenant_writes(recorder, &mut random);
-        runs(recorder, &mut random);
-        states(recorder, &mut random);
-        both_sheets(recorder, &mut random);
-    }
-    rows(recorder, &mut random);
-    counts(recorder, &mut random);
-}
-
-fn verdict(verdict: Verdict) -> Vec<u64> {
+/// The number and what it carries, and the numbers after these.
+fn numbers(verdict: Verdict, others: &[usize]) -> Vec<u64> {
     let Verdict {
         number,
         first,
         second,
         third,
     } = verdict;
-    vec![u64::from(number), first as u64, second as u64, third as u64]
+    let number = usize::from(number);
+    let all = [&[number, first, second, third], others].concat();
+    all.into_iter().map(|value| value as u64).collect()
 }
 
-fn hashes(recorder: &mut Recorder, length: usize, random: &mut Random) {
-    let mut message = vec![0; length];
-    random.fill(&mut message);
-    let class = length as u64;
-    let sha3 = Sha3_256::digest(&message).to_vec();
-    let blake2b = Params::new().hash_length(32).hash(&message);
-    for (entry, digest) in [
-        (entry::SHA3_256, sha3),
-        (entry::BLAKE2B_256, blake2b.as_bytes().to_vec()),
-    ] {
-        let record = Record {
-            entry,
-            bytes: vec![message.clone()],
-            contents: vec![digest],
-            ..Record::default()
-        };
-        recorder.offer(class, &record);
-    }
-    let (value, nonce) = (random.any_size(), random.bytes32());
+/// What tells refusals apart: the number, and one thing more.
+fn class(verdict: Verdict, other: usize) -> u64 {
+    u64::from(verdict.number) << 32 | (other as u64 & 0xffff_ffff)
+}
+
+// ---- covenants
+
+fn covenant_numbers(answer: &CovenantAnswer) -> Vec<u64> {
+    let others = [
+        answer.position,
+        answer.kind.into(),
+        answer.count,
+        answer.used,
+    ];
+    numbers(answer.verdict, &others)
+}
+
+fn offer_covenant(
+    records: &mut Records,
+    entry: u8,
+    argument: Vec<u8>,
+    answer: &CovenantAnswer,
+    enough: usize,
+) {
+    let is_long = argument.len() > SHORT;
+    let enough = if is_long { 2 } else { enough };
     let record = Record {
-        entry: entry::BLIND_BID,
-        numbers: vec![value],
-        bytes: vec![nonce.to_vec()],
-        contents: vec![hns_covenants::blind_bid(value, &nonce).to_vec()],
-        ..Record::default()
+        entry,
+        argument,
+        numbers: covenant_numbers(answer),
+        bytes: Vec::new(),
     };
-    recorder.offer(class, &record);
+    records.offer(class(answer.verdict, is_long.into()), enough, &record);
 }
 
-fn names(recorder: &mut Recorder, random: &mut Random) {
-    let mut name = Vec::new();
-    let length = random.of(&[0, 1, 2, 3, 8, 62, 63, 64]);
-    put_name(&mut name, length, random);
-    let hash = guarded(|| hns_covenants::hash_name(&name).map_err(|error| covenant_error(&error)));
-    let (number, digest) = match hash {
-        Ok(hash) => (0, hash.into_bytes()),
-        Err(refused) => (refused.number, [0; 32]),
-    };
-    let record = Record {
-        entry: entry::HASH_NAME,
-        bytes: vec![name],
-        answers: vec![u64::from(number)],
-        contents: vec![digest.to_vec()],
-        ..Record::default()
-    };
-    recorder.offer(length as u64 * 256 + u64::from(number), &record);
+/// A covenant that is the whole input.
+fn decode(records: &mut Records, bytes: &[u8], enough: usize) {
+    let (answer, _) = oracle::covenant_decode(bytes);
+    offer_covenant(records, entry::COVENANT, bytes.to_vec(), &answer, enough);
 }
 
-fn covenant_fields(answer: &CovenantAnswer) -> Vec<u64> {
-    let mut fields = verdict(answer.verdict);
-    fields.extend([
-        answer.position as u64,
-        u64::from(answer.kind),
-        answer.count as u64,
-        answer.used as u64,
-    ]);
-    fields
-}
-
-/// Refusals of one number are told apart by what comes second, which is often a limit.
-fn class(verdict: Verdict) -> u64 {
-    u64::from(verdict.number) << 32 | (verdict.second as u64 & 0xf)
-}
-
-fn read(recorder: &mut Recorder, bytes: &[u8], position: usize, limit: usize) {
+/// A covenant at a position, which is not behind the end: there the original can't stand.
+fn read(records: &mut Records, bytes: &[u8], position: usize, limit: usize, enough: usize) {
     let answer = oracle::covenant_read(bytes, position, limit);
-    let record = Record {
-        entry: entry::COVENANT_READ,
-        numbers: vec![position as u64, limit as u64],
-        bytes: vec![bytes.to_vec()],
-        answers: covenant_fields(&answer),
-        ..Record::default()
-    };
-    recorder.offer(class(answer.verdict), &record);
+    let mut argument = (limit as u64).to_le_bytes().to_vec();
+    argument.extend_from_slice(&(position as u64).to_le_bytes());
+    argument.extend_from_slice(bytes);
+    offer_covenant(records, entry::COVENANT_WITHIN, argument, &answer, enough);
 }
 
-/// The answer is followed by the places of the directory that are used: all starts, and then all lengths.
-fn decode(recorder: &mut Recorder, bytes: &[u8]) {
-    let (answer, covenant) = oracle::covenant_decode(bytes);
-    let mut answers = covenant_fields(&answer);
-    if let Some(covenant) = covenant {
-        let spots = parse::spots(&covenant, 0);
-        answers.extend(spots.iter().map(|spot| spot.0 as u64));
-        answers.extend(spots.iter().map(|spot| spot.1 as u64));
+fn covenants(records: &mut Records, random: &mut Random) {
+    for bytes in [
+        &[0, 0][..],
+        &[0, 0, 0],
+        &[3],
+        &[3, 1, 2, 0xaa],
+        &[0, 0xfd, 0xe9, 3],
+    ] {
+        decode(records, bytes, 100);
     }
-    let record = Record {
-        entry: entry::COVENANT_DECODE,
-        bytes: vec![bytes.to_vec()],
-        answers,
-        ..Record::default()
-    };
-    recorder.offer(class(answer.verdict), &record);
+    read(records, &[0, 0xfd, 0xe8, 3], 0, 2, 100);
+    let mut place = 0;
+    compact_forms(|bytes| {
+        place += 1;
+        if place % 11 == 0 {
+            decode(records, bytes, 40);
+            read(records, bytes, 0, place % 20, 40);
+        }
+    });
+    for _ in 0..DRAWN {
+        covenant(records, random);
+    }
 }
 
-fn covenant(recorder: &mut Recorder, random: &mut Random) {
-    let mut bytes = vec![0; random.below(3)];
+fn covenant(records: &mut Records, random: &mut Random) {
+    let mut bytes = vec![random.byte(); random.below(6)];
     let start = bytes.len();
-    build::put_covenant(&mut bytes, random);
+    put_covenant(&mut bytes, random);
     let size = bytes.len() - start;
     if random.once_in(2) {
         build::damage(&mut bytes, start, random);
     }
-    if bytes.len() > 2000 {
+    if bytes.len() > 2500 {
         return;
     }
     let limit = random.of(&[
@@ -187,314 +133,107 @@ fn covenant(recorder: &mut Recorder, random: &mut Random) {
         1_000_009,
         usize::MAX,
     ]);
-    read(recorder, &bytes, start, limit);
-    decode(recorder, &bytes[start.min(bytes.len())..]);
+    let start = start.min(bytes.len());
+    read(records, &bytes, start, limit, 84);
+    decode(records, &bytes[start..], 74);
 }
 
-/// Directories that are refused: a count above the most, of which no place is given, and items outside their source.
-fn hostile_writes(recorder: &mut Recorder) {
-    let largest = u64::MAX;
-    for (count, spots, refusal) in [
-        (1001, vec![], Verdict::refused(5, [1001, 1000, 0])),
-        (largest, vec![], Verdict::refused(5, [usize::MAX, 1000, 0])),
-        (1, vec![(0, 3)], Verdict::refused(30, [0, 0, 0])),
-        (2, vec![(0, 2), (3, 0)], Verdict::refused(30, [1, 0, 0])),
-        (
-            2,
-            vec![(2, 0), (largest, largest)],
-            Verdict::refused(30, [1, 0, 0]),
-        ),
-        (
-            3,
-            vec![(0, 2), (1, largest), (largest, 1)],
-            Verdict::refused(30, [1, 0, 0]),
-        ),
-    ] {
-        let mut numbers = vec![3, 8, count];
-        numbers.extend(spots.iter().map(|spot| spot.0));
-        numbers.extend(spots.iter().map(|spot| spot.1));
-        let (verdict, answers, content) = write(&Err(refusal), 8);
-        let record = Record {
-            entry: entry::COVENANT_ENCODE,
-            numbers,
-            bytes: vec![vec![1, 2]],
-            answers,
-            contents: vec![content],
-        };
-        recorder.offer(class(verdict), &record);
+// ---- states
+
+/// What the name report prints of a state: 0 null, 1 held, 2 free.
+fn class_of(state: &hns_covenants::NameState) -> usize {
+    match (state.is_null(), state.owner_outpoint()) {
+        (true, _) => 0,
+        (false, Some(_)) => 1,
+        (false, None) => 2,
     }
 }
 
-/// The numbers are kind, room and count, and then starts and lengths; the destination's bytes are 0xee before the call.
-fn covenant_writes(recorder: &mut Recorder, random: &mut Random) {
-    let mut source = vec![0; random.below(60)];
-    random.fill(&mut source);
-    let spots: Vec<Spot> = (0..random.below(5))
-        .map(|_| {
-            let length = random.below(source.len() + 1);
-            let start = random.below(source.len() - length + 1);
-            (start, length)
-        })
-        .collect();
-    let covenant = Covenant {
-        kind: CovenantKind::from_u8(build::kind(random)),
-        items: spots
-            .iter()
-            .map(|(start, length)| source[*start..start + length].to_vec())
-            .collect(),
+fn state(records: &mut Records, key: &[u8; 32], bytes: &[u8]) {
+    let (read, position) = original::decode(key, bytes);
+    let (refusal, shown) = match read {
+        Ok(whole) => (Verdict::ACCEPTED, class_of(&original::theirs(&whole.0))),
+        Err(refused) => (refused, 0),
     };
-    let written = guarded(|| covenant.encode().map_err(|error| covenant_error(&error)));
-    let room = room(&written, random);
-    let mut numbers = vec![
-        covenant.kind.as_u8().into(),
-        room as u64,
-        spots.len() as u64,
-    ];
-    numbers.extend(spots.iter().map(|spot| spot.0 as u64));
-    numbers.extend(spots.iter().map(|spot| spot.1 as u64));
-    let (verdict, answers, content) = write(&written, room);
     let record = Record {
-        entry: entry::COVENANT_ENCODE,
-        numbers,
-        bytes: vec![source],
-        answers,
-        contents: vec![content],
+        entry: entry::STATE,
+        argument: [&key[..], bytes].concat(),
+        numbers: numbers(refusal, &[position, shown]),
+        bytes: Vec::new(),
     };
-    recorder.offer(class(verdict), &record);
-}
-
-fn room(written: &Result<Vec<u8>, Refused>, random: &mut Random) -> usize {
-    let needed = written.as_ref().map_or(8, Vec::len);
-    random.of(&[0, needed.saturating_sub(1), needed, needed, needed + 3])
-}
-
-/// What a write into so much room answers, and what it leaves there.
-fn write(written: &Result<Vec<u8>, Refused>, room: usize) -> (Verdict, Vec<u64>, Vec<u8>) {
-    let mut content = vec![PATTERN; room];
-    let (answer, count) = match written {
-        Ok(bytes) if bytes.len() <= room => {
-            content[..bytes.len()].copy_from_slice(bytes);
-            (Verdict::ACCEPTED, bytes.len())
-        }
-        Ok(bytes) => (Verdict::refused(29, [bytes.len(), 0, 0]), 0),
-        Err(refused) => (*refused, 0),
+    let is_long = bytes.len() > SHORT;
+    let (other, enough) = match refusal.number {
+        _ if is_long => (1000, 6),
+        0 => (shown, 60),
+        1 => (refusal.first.min(60), 2),
+        4 | 7 => (refusal.first, 16),
+        _ => (0, 44),
     };
-    let mut answers = verdict(answer);
-    answers.push(count as u64);
-    (answer, answers, content)
+    records.offer(class(refusal, other), enough, &record);
 }
 
-fn runs(recorder: &mut Recorder, random: &mut Random) {
-    let mut bytes = Vec::new();
-    for _ in 0..random.below(5) {
-        let start = bytes.len();
-        build::put_covenant(&mut bytes, random);
-        if random.once_in(12) {
-            build::damage(&mut bytes, start, random);
-        }
-    }
-    if bytes.len() > 2000 {
-        return;
-    }
-    let limit = random.of(&[0, 2, 40, 1_000_009]);
-    let (mut position, mut covenants) = (0, 0);
-    let mut stop = (Verdict::ACCEPTED, 0);
-    while position < bytes.len() {
-        let answer = oracle::covenant_read(&bytes, position, limit);
-        if answer.verdict != Verdict::ACCEPTED {
-            stop = (answer.verdict, answer.position);
-            break;
-        }
-        (position, covenants) = (answer.position, covenants + 1);
-    }
-    let mut answers = verdict(stop.0);
-    answers.extend([stop.1 as u64, covenants]);
-    let record = Record {
-        entry: entry::COVENANT_READ_RUN,
-        numbers: vec![limit as u64],
-        bytes: vec![bytes],
-        answers,
-        ..Record::default()
-    };
-    recorder.offer(class(stop.0) | covenants << 8, &record);
-}
-
-/// The numbers of a state, in the order of the header.
-fn state_numbers(state: &NameState) -> Vec<u64> {
-    vec![
-        state.height.0.into(),
-        state.renewal.0.into(),
-        state.owner.index.into(),
-        state.value.0,
-        state.highest.0,
-        state.transfer.0.into(),
-        state.revoked.0.into(),
-        state.claimed.0.into(),
-        state.renewals.into(),
-        state.registered.into(),
-        state.expired.into(),
-        state.weak.into(),
-    ]
-}
-
-/// Its name, its resource and its owner's hash.
-fn state_bytes(state: &NameState) -> Vec<Vec<u8>> {
-    vec![
-        state.name().unwrap_or(&[]).to_vec(),
-        state.resource_data().unwrap_or(&[]).to_vec(),
-        state.owner.transaction_hash.0.to_vec(),
-    ]
-}
-
-fn read_state(recorder: &mut Recorder, key: &[u8; 32], bytes: Vec<u8>) {
-    let (read, position) = original::decode(key, &bytes);
-    let refusal = read.as_ref().err().copied().unwrap_or(Verdict::ACCEPTED);
-    let state = read.unwrap_or(original::Whole::ZEROS).0;
-    let mut answers = verdict(refusal);
-    answers.push(position as u64);
-    answers.extend(state_numbers(&state));
-    let record = Record {
-        entry: entry::NAME_STATE_DECODE,
-        bytes: vec![key.to_vec(), bytes],
-        answers,
-        contents: state_bytes(&state),
-        ..Record::default()
-    };
-    recorder.offer(class(refusal) | (refusal.first as u64 & 7) << 8, &record);
-}
-
-fn states(recorder: &mut Recorder, random: &mut Random) {
+fn states(records: &mut Records, random: &mut Random) {
+    state(records, &[0; 32], &[0; 13]);
+    let mut named = [0; 14];
+    named[..2].copy_from_slice(&[1, 0x41]);
+    state(records, &[7; 32], &named);
+    let mut shown = [0; 14];
+    shown[11] = 2;
+    state(records, &[0; 32], &shown);
     let mut fields = Fields::default();
-    fields.draw(random);
     let mut bytes = Vec::new();
-    fields.put(&mut bytes);
-    match random.below(8) {
-        0 | 1 => build::damage(&mut bytes, 0, random),
-        2 => bytes.resize(random.of(&[668, 669]), 0),
-        _ => {}
-    }
-    let key = key(&fields.name, random);
-    read_state(recorder, &key, bytes);
-    let state = state(&fields, random);
-    if state.name_length <= 63 && state.resource_length <= 512 {
-        write_state(recorder, &state, random);
-    }
-}
-
-/// The numbers are the state's and the room; the destination's bytes are 0xee before the call.
-fn write_state(recorder: &mut Recorder, state: &NameState, random: &mut Random) {
-    let theirs = original::theirs(state);
-    let written = guarded(|| theirs.encode().map_err(|error| covenant_error(&error)));
-    let room = room(&written, random);
-    let mut numbers = state_numbers(state);
-    numbers.push(room as u64);
-    let mut bytes = vec![state.name_hash.0.to_vec()];
-    bytes.extend(state_bytes(state));
-    let (verdict, answers, content) = write(&written, room);
-    let record = Record {
-        entry: entry::NAME_STATE_ENCODE,
-        numbers,
-        bytes,
-        answers,
-        contents: vec![content],
-    };
-    recorder.offer(class(verdict), &record);
-}
-
-fn both_sheets(recorder: &mut Recorder, random: &mut Random) {
-    let mut pair = Sheets::default();
-    sheets::draw(&mut pair, random);
-    if random.once_in(3) {
-        damage_one(&mut pair, random);
-    }
-    if pair.transaction.len() + pair.coins.len() > 2000 {
-        return;
-    }
-    judge(recorder, &pair);
-    view(recorder, &pair, random);
-    links(recorder, &pair, 0);
-}
-
-fn judge(recorder: &mut Recorder, pair: &Sheets) {
-    let transaction = parse::transaction(&pair.transaction).map(|sheet| {
-        let transaction = sheet.transaction;
-        [transaction.inputs.len(), transaction.outputs.len()]
-    });
-    let coins = parse::coins(&pair.coins).map(|sheet| [sheet.coins.len(), 0]);
-    for (entry, sheet, counts, side) in [
-        (entry::JUDGE_TRANSACTION, &pair.transaction, transaction, 0),
-        (entry::JUDGE_COINS, &pair.coins, coins, 1),
-    ] {
-        let (refusal, side, counts) = match counts {
-            Ok(counts) => (Verdict::ACCEPTED, 0, counts),
-            Err(refused) => (refused, side, [0; 2]),
-        };
-        let mut answers = verdict(refusal);
-        answers.extend([side, counts[0] as u64, counts[1] as u64]);
-        let record = Record {
-            entry,
-            bytes: vec![sheet.clone()],
-            answers,
-            ..Record::default()
-        };
-        recorder.offer(class(refusal), &record);
+    for _ in 0..DRAWN {
+        fields.draw(random);
+        bytes.clear();
+        fields.put(&mut bytes);
+        match random.below(8) {
+            0 | 1 => build::damage(&mut bytes, 0, random),
+            2 => bytes.resize(random.of(&[667, 668, 669, 670, 700]), 0),
+            _ => {}
+        }
+        let key = key(&fields.name, random);
+        state(records, &key, &bytes);
     }
 }
 
-fn view(recorder: &mut Recorder, pair: &Sheets, random: &mut Random) {
-    let (side, index, item) = (random.below(3), random.below(3), random.below(5));
-    let found = || -> Option<Spot> {
-        let transaction = parse::transaction(&pair.transaction).ok()?;
-        let coins = parse::coins(&pair.coins).ok()?;
-        let spots = [&transaction.spots, &coins.spots];
-        spots.get(side)?.get(index)?.get(item).copied()
-    };
-    let spot = found();
-    let (offset, length) = spot.unwrap_or((0, 0));
-    let record = Record {
-        entry: entry::VIEW_ITEM,
-        numbers: vec![side as u64, index as u64, item as u64],
-        bytes: vec![pair.transaction.clone(), pair.coins.clone()],
-        answers: vec![u64::from(spot.is_some()), offset as u64, length as u64],
-        ..Record::default()
-    };
-    let class = side * 2 + usize::from(spot.is_some());
-    recorder.offer(class as u64, &record);
-}
+// ---- links
 
-/// The outpoints of 12 are in the 36 bytes that `Outpoint::encode` gives; zeros elsewhere.
-fn links(recorder: &mut Recorder, pair: &Sheets, row: u64) {
-    let verified = verify::answer(pair);
-    // The original gave no answer there.
-    if verified.panicked {
-        return;
-    }
-    let answer = verified.answer;
-    let mut answers = verdict(answer.verdict);
-    answers.extend([
-        u64::from(answer.side),
-        answer.inputs_checked as u64,
-        answer.linked_outputs as u64,
-        answer.name_inputs as u64,
-    ]);
-    let record = Record {
-        entry: entry::VERIFY_COVENANT_LINKS,
-        bytes: vec![pair.transaction.clone(), pair.coins.clone()],
-        answers,
-        contents: [answer.expected, answer.actual].map(encoded).to_vec(),
-        ..Record::default()
-    };
-    recorder.offer(class(answer.verdict) | row << 8, &record);
-}
-
+/// The 36 bytes of `Outpoint::encode`.
 fn encoded(outpoint: Outpoint) -> Vec<u8> {
     let mut encoded = outpoint.transaction_hash.0.to_vec();
     encoded.extend_from_slice(&outpoint.index.to_le_bytes());
     encoded
 }
 
-/// Every row and column of the link table, right and with every single fault, and without a partner.
-fn rows(recorder: &mut Recorder, random: &mut Random) {
+/// A pair of sheets in a class of its answer's; nothing where the original panics.
+fn both(records: &mut Records, pair: &Sheets, class: impl Fn(Verdict, u8) -> u64, enough: usize) {
+    let verified = verify::answer(pair);
+    if verified.panicked {
+        return;
+    }
+    let answer = verified.answer;
+    let length = u32::try_from(pair.transaction.len()).expect("a sheet is short");
+    let others = [
+        answer.side.into(),
+        answer.inputs_checked,
+        answer.linked_outputs,
+        answer.name_inputs,
+    ];
+    let record = Record {
+        entry: entry::LINKS,
+        argument: [&length.to_le_bytes()[..], &pair.transaction, &pair.coins].concat(),
+        numbers: numbers(answer.verdict, &others),
+        bytes: [answer.expected, answer.actual].map(encoded).concat(),
+    };
+    records.offer(class(answer.verdict, answer.side), enough, &record);
+}
+
+/// Rows whose ends are their own: a bid's commitment, a claim that can't redeem, a transfer's address.
+const OWN_ENDS: [(u8, u8); 3] = [(3, 4), (1, 5), (9, 10)];
+
+/// Every kind with every kind, right and with every single fault, and without a partner: each different answer once, and all of the rows with ends
+/// of their own.
+fn rows(records: &mut Records, random: &mut Random) {
     let mut pair = Sheets::default();
     for spent in 0..=12 {
         for created in 0..=12 {
@@ -502,45 +241,149 @@ fn rows(recorder: &mut Recorder, random: &mut Random) {
                 let faults = (1 << fault) & ((1 << fault::COUNT) - 1);
                 let one = sheets::pair(spent, created, faults, random);
                 pair.lay(&[one], 1, &[]);
-                let row = 1 + u64::from(spent) * 16 + u64::from(created);
-                links(recorder, &pair, row << 8 | u64::from(fault));
+                let is_own = OWN_ENDS.contains(&(spent, created));
+                let kinds = usize::from(spent) << 8 | usize::from(created) << 4;
+                let row = |verdict: Verdict| match verdict.number {
+                    _ if is_own => (fault as usize) << 12 | kinds,
+                    10 | 12 => usize::from(spent) << 8,
+                    _ => kinds | verdict.second,
+                };
+                both(records, &pair, |v, _| class(v, 1 << 20 | row(v)), 1);
             }
         }
         let one = sheets::pair(spent, 0, 0, random);
         pair.lay(&[one], 0, &[]);
-        links(recorder, &pair, (1 + u64::from(spent) * 16 + 15) << 8);
+        both(
+            records,
+            &pair,
+            |v, _| class(v, 2 << 20 | usize::from(spent)),
+            1,
+        );
     }
 }
 
 /// Inputs and coins that differ in number.
-fn counts(recorder: &mut Recorder, random: &mut Random) {
+fn counts(records: &mut Records, random: &mut Random) {
     let pairs = [(); 3].map(|()| sheets::pair(0, 0, 0, random));
-    for (inputs, coins) in [(0, 1), (1, 0), (1, 2), (3, 1)] {
-        let (mut pair, mut other) = (Sheets::default(), Sheets::default());
-        pair.lay(&pairs[..inputs], inputs, &[]);
-        other.lay(&pairs[..coins], 0, &[]);
-        pair.coins = other.coins;
-        links(recorder, &pair, 0);
+    for inputs in 0..=3 {
+        for coins in 0..=3 {
+            let (mut pair, mut other) = (Sheets::default(), Sheets::default());
+            pair.lay(&pairs[..inputs], inputs, &[]);
+            other.lay(&pairs[..coins], 0, &[]);
+            pair.coins = other.coins;
+            both(records, &pair, |v, _| class(v, 3 << 20), 16);
+        }
     }
 }
 
-/// Lines of document 01's sample table.
-fn samples(recorder: &mut Recorder) {
-    for bytes in [
-        &[0, 0][..],
-        &[0, 0, 0],
-        &[3],
-        &[3, 1, 2, 0xaa],
-        &[0, 0xfd, 0xe9, 3],
-    ] {
-        decode(recorder, bytes);
+fn links(records: &mut Records, random: &mut Random) {
+    let empty = Sheets {
+        transaction: vec![0x10, 0, 0, 0],
+        coins: vec![0x14, 0, 0, 0],
+    };
+    both(records, &empty, |v, _| class(v, 0), 1);
+    let mut alone = empty;
+    alone.transaction = [&[0x10, 0, 0, 0x40][..], &[0; 10], &[4, 0]].concat();
+    both(records, &alone, |v, _| class(v, 0), 1);
+    rows(records, random);
+    counts(records, random);
+    let mut pair = Sheets::default();
+    for _ in 0..DRAWN {
+        sheets::draw(&mut pair, random);
+        if random.once_in(3) {
+            damage_one(&mut pair, random);
+        }
+        if pair.transaction.len() + pair.coins.len() > 850 {
+            continue;
+        }
+        // Refusals of a sheet by its side, those of a rule by the input.
+        let enough = match verify::answer(&pair).answer.verdict.number {
+            0 => 34,
+            1..=5 | 27 => 12,
+            _ => 3,
+        };
+        let place = |verdict: Verdict, side: u8| match verdict.number {
+            0..=5 | 27 => usize::from(side),
+            15 => verdict.second << 2 | verdict.first & 3,
+            _ => verdict.first & 3,
+        };
+        both(
+            records,
+            &pair,
+            |v, side| class(v, 4 << 20 | place(v, side)),
+            enough,
+        );
     }
-    read(recorder, &[0, 0xfd, 0xe8, 3], 0, 2);
-    read_state(recorder, &[0; 32], vec![0; 13]);
-    let mut named = vec![0; 14];
-    named[..2].copy_from_slice(&[1, 0x41]);
-    read_state(recorder, &[7; 32], named);
-    let mut shown = vec![0; 14];
-    shown[11] = 2;
-    read_state(recorder, &[0; 32], shown);
+}
+
+// ---- names and commitments
+
+fn name(records: &mut Records, name: &[u8], class: u64, enough: usize) {
+    let hash = guarded(|| hns_covenants::hash_name(name).map_err(|error| covenant_error(&error)));
+    let (number, hash) = match hash {
+        Ok(hash) => (0, hash.into_bytes()),
+        Err(refused) => (refused.number, [0; 32]),
+    };
+    let record = Record {
+        entry: entry::NAME,
+        argument: name.to_vec(),
+        numbers: vec![number.into()],
+        bytes: hash.to_vec(),
+    };
+    records.offer(class << 8 | u64::from(number), enough, &record);
+}
+
+fn blind(records: &mut Records, value: u64, nonce: &[u8; 32]) {
+    let record = Record {
+        entry: entry::BLIND,
+        argument: [&value.to_le_bytes()[..], nonce].concat(),
+        numbers: Vec::new(),
+        bytes: hns_covenants::blind_bid(value, nonce).to_vec(),
+    };
+    records.offer(0, usize::MAX, &record);
+}
+
+fn names(records: &mut Records, random: &mut Random) {
+    for byte in 0..=255 {
+        name(records, &[byte], 0, 256);
+    }
+    for length in 0..=70 {
+        name(records, &vec![b'a'; length], 1, 100);
+    }
+    for word in RESERVED {
+        for (before, after) in [
+            ("", ""),
+            ("a", ""),
+            ("", "0"),
+            ("-", ""),
+            ("", "_"),
+            ("a-", "_b"),
+        ] {
+            name(
+                records,
+                &[before.as_bytes(), word, after.as_bytes()].concat(),
+                2,
+                100,
+            );
+        }
+        name(records, &word[1..], 2, 100);
+    }
+    let mut drawn = Vec::new();
+    for _ in 0..DRAWN {
+        let length = random.of(&[1, 2, 3, 8, 20, 62, 63, 64]);
+        drawn.clear();
+        put_name(&mut drawn, length, random);
+        name(records, &drawn, 3, 150);
+    }
+    for bit in 0..64 {
+        blind(records, 1 << bit, &random.bytes32());
+    }
+    for value in [0, u64::MAX] {
+        for byte in [0, 0xff] {
+            blind(records, value, &[byte; 32]);
+        }
+    }
+    for _ in 0..64 {
+        blind(records, random.any_size(), &random.bytes32());
+    }
 }

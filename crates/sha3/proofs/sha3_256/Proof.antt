@@ -5,7 +5,7 @@ use native.Mathlib.Omega.{arith}
 use lib.ListN.{length, take, drop, replicate}
 use borrow.Author.Needs.{needs}
 use Rattle.sha3.specs.Keccak.{keccakP}
-use Rattle.sha3.specs.Sha3.{bitsOf, packed, block, absorbed, sponge, keccak, sha3}
+use Rattle.sha3.specs.Sha3.{bitsOf, packed, absorbed, sponge, keccak, sha3}
 use Rattle.sha3.proofs.Padding.{paddedMessage}
 use Rattle.sha3.proofs.Sponge.{left, left-all, absorbed-more, absorbed-last}
 use Rattle.sha3.proofs.sha3_256.Statement.{statement}
@@ -40,14 +40,8 @@ loop-again c =
     let m = c .before .before .before .before .before .args .m .now in
     (omega arith, omega arith, rw (c .absorb-block .ensures) (absorbed-more m (l .s) (l .at) (l .inv .1) (omega arith) ∙ l .inv .2))
 
-last-block-requires : tie.Need-last-block-requires Inv-loop μ-loop
-last-block-requires c κs = search needs
-
-slice-aggregate-absorb-block : tie.Need-slice-aggregate-absorb-block Inv-loop μ-loop
-slice-aggregate-absorb-block c = search needs
-
-absorb-block-requires-2 : tie.Need-absorb-block-requires-2 Inv-loop μ-loop
-absorb-block-requires-2 c κs = search needs
+absorb-last-requires : tie.Need-absorb-last-requires Inv-loop μ-loop
+absorb-last-requires c κs = search needs
 
 squeeze-requires : tie.Need-squeeze-requires Inv-loop μ-loop
 squeeze-requires c κs = search needs
@@ -55,12 +49,11 @@ squeeze-requires c κs = search needs
 returns : tie.Need-returns Inv-loop μ-loop
 unfolding sponge keccak sha3
 returns c =
-    let l = c .before .before .before .before .before .before .loop in
-    let m = c .before .before .before .before .before .before .before .before .args .m .now in
+    let l = c .before .before .before .before .loop in
+    let m = c .before .before .before .before .before .before .args .m .now in
     c .squeeze .ensures
     ∙ ap (λ (s : List ℕ). packed 8 32 (take 256 (bitsOf 64 s)))
-    (c .before .absorb-block2 .ensures
-    ∙ ap (block keccakP 1088 (l .s)) (c .before .before .before .before .last-block .ensures)
+    (c .before .absorb-last .ensures
     ∙ absorbed-last m (l .s) (l .at) (l .inv .1) (l .inv .0) (omega arith)
     ∙ l .inv .2
     ∙ ap (λ (n : ℕ). absorbed keccakP 1088 n (replicate 25 0) (paddedMessage m)) (left-all m))
@@ -77,8 +70,6 @@ sha3-256-spec =
     add-at
     loop-less
     loop-again
-    last-block-requires
-    slice-aggregate-absorb-block
-    absorb-block-requires-2
+    absorb-last-requires
     squeeze-requires
     returns)

@@ -1,7 +1,7 @@
 use borrow.Author.Needs.{needs}
 use native.Mathlib.Omega.{arith}
 use mathlib.Core.Path.{_≡_, refl, ap, sym, _∙_}
-use Rattle.capi.specs.States.{classNumber}
+use Rattle.name_state.specs.Paper.{classNumber}
 use Rattle.capi.proofs.states.turgamysk_name_state_class.Statement.{statement}
 use Rattle.capi.proofs.states.turgamysk_name_state_class.Tie as tie
 use Rattle.capi.proofs.states.turgamysk_name_state_class.Reads as reads

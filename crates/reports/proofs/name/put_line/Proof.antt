@@ -6,7 +6,7 @@ use lib.ListN.{length, take, drop, length-drop}
 use lib.Seq.{take-all}
 use borrow.Author.Tests.{lt-ltb, le-ltb}
 use Rattle.reports.specs.Name.{nameLine}
-use Rattle.reports.proofs.Decoded.{decoded-read}
+use Rattle.name_states.proofs.Decoded.{decoded-read}
 use Rattle.reports.proofs.name.put_line.Statement.{statement}
 use Rattle.reports.proofs.name.put_line.Tie as tie
 use Rattle.reports.proofs.name.put_line.Reads as reads

@@ -7,12 +7,11 @@ use Rattle.name_state.specs.State.{State}
 use Rattle.name_state.specs.Paper.{stateOf, stored}
 use Rattle.name_state.specs.declared.NameState.{NameState}
 use Rattle.name_state.proofs.Theorems.{stored-holds}
 use Rattle.name_states.specs.Read.{readState}
-use Rattle.name_states.specs.Paper.{decodedPaper, shownState}
+use Rattle.name_states.specs.Paper.{decodedPaper, shownState, decodedState}
 use Rattle.name_states.specs.declared.decode.Decoded.{Decoded}
 use Rattle.name_states.proofs.Theorems.{accepted-is-written}
 use Rattle.name_states.proofs.Checks.{passes}
-use Rattle.reports.specs.Name.{decodedState}
 
 -- an outcome and the state beside it, as the outcome of that state
 abbrev joined : Outcome Unit × NameState → Outcome State

@@ -1,11 +1,14 @@
+use mathlib.Core.Path.{ap, _∙_}
 use Prim.Native.Nat.{_-_}
 use native.Mathlib.Omega.{arith}
 use lib.ListN.{length, drop, length-drop}
 use lib.Seq.{take-all}
+use Rattle.sha3.specs.Keccak.{keccakP}
+use Rattle.sha3.specs.Sha3.{block}
 use Rattle.sha3.proofs.Padding.{last-bits}
 use borrow.Author.Needs.{needs}
-use Rattle.sha3.proofs.last_block.Statement.{statement}
-use Rattle.sha3.proofs.last_block.Tie as tie
+use Rattle.sha3.proofs.absorb_last.Statement.{statement}
+use Rattle.sha3.proofs.absorb_last.Tie as tie
 
 sub-n : tie.Need-sub-n
 sub-n c = search needs
@@ -34,15 +37,21 @@ array-read-b c = search needs
 array-write-b-2 : tie.Need-array-write-b-2
 array-write-b-2 c = search needs
 
+slice-aggregate-absorb-block : tie.Need-slice-aggregate-absorb-block
+slice-aggregate-absorb-block c = search needs
+
+absorb-block-requires : tie.Need-absorb-block-requires
+absorb-block-requires c κs = search needs
+
 returns : tie.Need-returns
 returns c =
-    let s = c .before .before .before .before .before in
+    let s = c .before .before .before .before .before .before .before .before in
     let m = s .args .m .now in
     let at = s .args .at in
-    last-bits m at _ _ (s .pre .0) (s .pre .1) (s .pre .2) (take-all (length m - at) (drop at m) (simp length-drop (omega arith))) (c .before .put-bytes .ensures .1)
+    c .absorb-block .ensures ∙ ap (block keccakP 1088 (s .args .s .now)) (last-bits m at _ _ (s .pre .0) (s .pre .1) (s .pre .2) (take-all (length m - at) (drop at m) (simp length-drop (omega arith))) (c .before .before .before .before .put-bytes .ensures .1))
 
-pub last-block-spec : {M : Type 1} → statement M
-last-block-spec =
+pub absorb-last-spec : {M : Type 1} → statement M
+absorb-last-spec =
     tie.close
     (tie.spec
     sub-n
@@ -54,4 +63,6 @@ last-block-spec =
     array-write-b
     array-read-b
     array-write-b-2
+    slice-aggregate-absorb-block
+    absorb-block-requires
     returns)
