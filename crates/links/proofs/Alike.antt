@@ -13,7 +13,7 @@ use Rattle.primitives.specs.declared.Outpoint.{Outpoint}
 use Rattle.primitives.specs.Outpoints.{outpoint, sameOutpoint, shownOutpoint}
 use Rattle.primitives.proofs.Theorems.{same-is-equal}
 use Rattle.sheets.specs.Sheet.{be, inputAt}
-use Rattle.links.proofs.Below.{part-of-part, word-one, spell-one}
+use Rattle.links.proofs.Spelled.{part-of-part, word-one, spell-one}
 
 -- the hashes that stand at a and at b agree in their first j bytes, which are whole words
 pub record Alike (s t : List ℕ) (a b j : ℕ) : Type 0 where

@@ -1,4 +1,4 @@
-pub mod Below
+pub mod Spelled
 pub mod Alike
 pub mod Comparing
 pub mod Judging
