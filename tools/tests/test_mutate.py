@@ -1,4 +1,4 @@
-"""Tests of tools/mutate.py: which changes it makes, and where."""
+"""Tests of tools/mutate.py: which changes it makes, and where, which of them one run judges, and what the prover's words mean for each."""
 
 import sys
 import tempfile
@@ -10,6 +10,8 @@ sys.path.insert(0, str(Path(__file__).resolve().parent.parent))
 import mutate
 
 SOURCE = """// 1 < 2 stands in a comment
+pub const MOST: usize = 10;
+
 pub enum Answer {
     Yes(u8),
     Maybe(u8),
@@ -27,36 +29,125 @@ pub fn judge(n: u8) -> Answer
         _ => Answer::No,
     }
 }
+
+impl Answer {
+    fn is_mark(b: u8) -> bool {
+        !named(b"ab") && b == b'-'
+    }
+}
+
+fn named(s: &[u8]) -> bool {
+    s.len() != 0x10
+}
 """
 
+JUDGE, IS_MARK, NAMED = "one::part::judge", "one::part::Answer::is_mark", "one::part::named"
 
-class Changes(unittest.TestCase):
+
+class Tree(unittest.TestCase):
     def setUp(self):
         folder = tempfile.TemporaryDirectory()
         self.addCleanup(folder.cleanup)
         self.root = Path(folder.name)
-        source = self.root / "crates/one/src/lib.rt"
-        source.parent.mkdir(parents=True)
-        source.write_text(SOURCE, encoding="utf-8")
+        self.source = self.root / "crates/one/src/part.rt"
+        self.source.parent.mkdir(parents=True)
+        self.source.write_text(SOURCE, encoding="utf-8")
+        self.mutants = list(mutate.mutants_of(self.root, "one"))
 
-    def changes(self):
-        return [(m.line, m.old, m.new) for m in mutate.mutants_of(self.root, "one")]
+    def first(self, full):
+        return next(mutant for mutant in self.mutants if mutant.full == full)
+
+
+class Changes(Tree):
+    def changes(self, full):
+        return sorted((m.line, m.old, m.new) for m in self.mutants if m.full == full)
 
     def test_comparison_operator_constants_and_answer(self):
-        expected = [(11, "<", "<="), (11, "10", "11"), (11, "10", "9"), (12, "Yes", "Maybe"), (12, "+", "-"), (12, "2", "1"), (12, "2", "3")]
-        self.assertEqual(sorted(expected), sorted(self.changes()))
+        expected = [(13, "<", "<="), (13, "10", "11"), (13, "10", "9"), (14, "Yes", "Maybe"), (14, "+", "-"), (14, "2", "1"), (14, "2", "3")]
+        self.assertEqual(sorted(expected), self.changes(JUDGE))
+
+    def test_negation_bytes_and_hexadecimal(self):
+        self.assertEqual([(24, "!", ""), (24, "&&", "||"), (24, "==", "!="), (24, 'b"ab"', 'b"ac"'), (24, "b'-'", "b'.'")], self.changes(IS_MARK))
+        self.assertEqual([(29, "!=", "=="), (29, "0x10", "0x11"), (29, "0x10", "0xf")], self.changes(NAMED))
+
+    def test_a_constant_outside_the_functions(self):
+        self.assertEqual([(2, "10", "11"), (2, "10", "9")], self.changes(""))
 
     def test_comments_contracts_and_patterns_stay(self):
-        self.assertFalse([change for change in self.changes() if change[0] in (1, 9, 15)])
+        self.assertFalse([mutant for mutant in self.mutants if mutant.line in (1, 11, 17)])
+
+
+class Rounds(Tree):
+    def rounds(self):
+        chosen = list(enumerate(self.mutants))
+        return [[mutant for _, mutant in group] for group in mutate.rounds_of(chosen, mutate.reach_of(self.root, "one"))]
+
+    def test_every_mutant_once(self):
+        self.assertEqual(sorted(self.mutants), sorted(mutant for group in self.rounds() for mutant in group))
+
+    def test_no_function_with_one_that_it_calls(self):
+        for group in self.rounds():
+            self.assertFalse({IS_MARK, NAMED} <= {mutant.full for mutant in group})
+
+    def test_unrelated_functions_together(self):
+        self.assertTrue(any({JUDGE, IS_MARK} <= {mutant.full for mutant in group} for group in self.rounds()))
+
+    def test_a_constant_alone(self):
+        self.assertTrue(all(len(group) == 1 for group in self.rounds() if any(not mutant.full for mutant in group)))
+
+
+class Verdicts(Tree):
+    def both(self):
+        return [self.first(JUDGE), self.first(IS_MARK)]
+
+    def test_each_function_has_its_own(self):
+        said = f"fn {JUDGE}: not proved\nfn {IS_MARK}: proved\n"
+        self.assertEqual(["refused", "ACCEPTED"], mutate.verdicts(self.both(), (said, 1)))
+
+    def test_a_method_of_a_type_of_another_module(self):
+        said = f"fn {JUDGE}: proved\nfn one::Answer::is_mark: not proved\n"
+        self.assertEqual(["ACCEPTED", "refused"], mutate.verdicts(self.both(), (said, 1)))
+
+    def test_what_was_not_told_apart(self):
+        self.assertIsNone(mutate.verdicts(self.both(), ("error: mismatched types", 1)))
+        self.assertIsNone(mutate.verdicts(self.both(), None))
+        self.assertIsNone(mutate.verdicts(self.both(), (f"fn {JUDGE}: proved\n", 1)))
+
+    def test_one_alone(self):
+        alone = [self.first(JUDGE)]
+        self.assertEqual(["no program"], mutate.verdicts(alone, ("error: mismatched types", 1)))
+        self.assertEqual(["refused"], mutate.verdicts(alone, (f"fn {JUDGE}: proved\nfn {IS_MARK}: not proved\n", 1)))
+        self.assertEqual(["no verdict"], mutate.verdicts(alone, (f"fn {JUDGE}: could not tell\n", 3)))
+        self.assertEqual(["no verdict"], mutate.verdicts(alone, None))
+
+
+class Judging(Tree):
+    def prover(self, answers):
+        prover = mutate.Prover(self.root, "one")
+        self.seen = []
+
+        def said():
+            self.seen.append(self.source.read_text(encoding="utf-8"))
+            return answers.pop(0)
+
+        prover.said = said
+        return prover
 
     def test_the_file_is_put_back(self):
-        mutant = next(mutate.mutants_of(self.root, "one"))
-        seen = []
-        before, mutate.verdict = mutate.verdict, lambda root, crate: seen.append(mutant.path.read_text(encoding="utf-8")) or "refused"
-        self.addCleanup(setattr, mutate, "verdict", before)
-        self.assertEqual("refused", mutate.judged(self.root, "one", mutant))
-        self.assertIn("if n <= 10", seen[0])
-        self.assertEqual(SOURCE, mutant.path.read_text(encoding="utf-8"))
+        self.prover([(f"fn {JUDGE}: not proved\n", 1)]).judge([self.first(JUDGE)])
+        self.assertIn("if n <= 10", self.seen[0])
+        self.assertEqual(SOURCE, self.source.read_text(encoding="utf-8"))
+
+    def test_one_that_is_accepted_is_judged_alone(self):
+        both = [self.first(JUDGE), self.first(IS_MARK)]
+        prover = self.prover([(f"fn {JUDGE}: not proved\nfn {IS_MARK}: proved\n", 1), (f"fn {IS_MARK}: proved\n", 0)])
+        self.assertEqual(["refused", "ACCEPTED"], mutate.judged(prover, both))
+        self.assertNotIn("if n <= 10", self.seen[1])
+
+    def test_halves_where_nothing_is_told(self):
+        both = [self.first(JUDGE), self.first(IS_MARK)]
+        prover = self.prover([("error: mismatched types", 1), ("error: mismatched types", 1), (f"fn {IS_MARK}: not proved\n", 1)])
+        self.assertEqual(["no program", "refused"], mutate.judged(prover, both))
 
 
 if __name__ == "__main__":

@@ -7,13 +7,13 @@ use mathlib.Core.Bool.{Bool, true, false}
 use lib.ListN.{length, take, drop}
 use lib.Seq.{take-add, drop-drop}
 use Rattle.words.specs.Words.{le, Bytes}
-use Rattle.words.proofs.Le.{part-bytes, part-long}
+use Rattle.words.proofs.Le.{part-bytes, part-long, part-of-part, word-one}
 use Rattle.encoding.proofs.Slice as slice
 use Rattle.primitives.specs.declared.Outpoint.{Outpoint}
 use Rattle.primitives.specs.Outpoints.{outpoint, sameOutpoint, shownOutpoint}
 use Rattle.primitives.proofs.Theorems.{same-is-equal}
 use Rattle.sheets.specs.Sheet.{be, inputAt}
-use Rattle.links.proofs.Spelled.{part-of-part, word-one, spell-one}
+use Rattle.sheets.proofs.Spelling.{spell-one}
 
 -- the hashes that stand at a and at b agree in their first j bytes, which are whole words
 pub record Alike (s t : List ℕ) (a b j : ℕ) : Type 0 where

@@ -1,4 +1,3 @@
-pub mod Spelled
 pub mod Alike
 pub mod Comparing
 pub mod Judging

@@ -162,7 +162,7 @@ unpaired at verdict [] = verdict
 unpaired at verdict (made ∷ rest) = pick (isLinked (made .kind)) (broken 26 (at ∷ made .kind ∷ [])) (unpaired (suc at) verdict rest)
 
 -- "Inputs in order, each fully before the next": from the i-th on, with their coins and the outputs from the i-th on; so many outputs were linked
--- and so many names spent before. "First the outpoint (12)"
+-- and so many names spent before. "First the outpoint (12)". There are as many coins as inputs (11), so that the second case is never reached
 unfoldable pub linksFrom : ℕ → ℕ → ℕ → List Outpoint → List Coin → List Output → Verdict
 linksFrom i outs names [] coins outputs = unpaired i (linked i outs names) outputs
 linksFrom i outs names (x ∷ xs) [] outputs = unpaired i (linked i outs names) outputs

@@ -4,6 +4,7 @@ use mathlib.Core.List.{List, [], _++_}
 use mathlib.Core.Bool.{true, false}
 use lib.ListN.{length, take, replicate}
 use Rattle.words.specs.Buffers.{pick}
+use Rattle.primitives.specs.declared.Outpoint.{Outpoint}
 use Rattle.primitives.specs.Outpoints.{outpoint, nullOutpoint, isNull}
 use Rattle.name_state.specs.State.{State, null}
 use Rattle.name_state.specs.declared.NameState.{NameState}
@@ -63,16 +64,16 @@ stored t =
       weak = t .weak;
     }
 
--- the null state of a key, with a name
-abbrev pub nullState : List ℕ → List ℕ → State
-nullState key name =
+-- a state that has a key, a name and an owner, and nothing else
+abbrev pub bare : List ℕ → List ℕ → Outpoint → State
+bare key name owner =
     record {
       key = key;
       name = name;
       resource = [];
       height = 0;
       renewal = 0;
-      owner = nullOutpoint;
+      owner = owner;
       value = 0;
       highest = 0;
       transfer = 0;
@@ -83,6 +84,10 @@ nullState key name =
       expired = false;
       weak = false;
     }
+
+-- the null state of a key, with a name
+abbrev pub nullState : List ℕ → List ℕ → State
+nullState key name = bare key name nullOutpoint
 
 -- the owner, where there is one; "Unused parts of an answer are zeros"
 abbrev pub ownerOf : State → Owner

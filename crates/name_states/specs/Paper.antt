@@ -1,7 +1,6 @@
 -- What the answers say.
 use Prim.Native.Nat.{ℕ}
 use mathlib.Core.List.{[]}
-use mathlib.Core.Bool.{false}
 use lib.ListN.{replicate}
 use Rattle.refusal.specs.Outcome.{Outcome, ok, err, then}
 use Rattle.refusal.specs.Paper.{stopped}
@@ -10,7 +9,7 @@ use Rattle.primitives.specs.Outpoints.{outpoint}
 use Rattle.primitives.specs.declared.Outpoint.{Outpoint}
 use Rattle.primitives.specs.declared.ReadOutpoint.{ReadOutpoint}
 use Rattle.name_state.specs.State.{State}
-use Rattle.name_state.specs.Paper.{stateOf, stored}
+use Rattle.name_state.specs.Paper.{stateOf, stored, bare}
 use Rattle.name_state.specs.declared.NameState.{NameState}
 use Rattle.name_states.specs.declared.read.Texts.{Texts}
 use Rattle.name_states.specs.declared.read.ReadTexts.{ReadTexts}
@@ -29,24 +28,7 @@ decodedPaper d = (movedPaper (d .read), d .state)
 
 -- "Unused parts of an answer are zeros"
 abbrev pub zeros : NameState
-zeros =
-    stored (record {
-      key = replicate 32 0;
-      name = [];
-      resource = [];
-      height = 0;
-      renewal = 0;
-      owner = outpoint (replicate 32 0) 0;
-      value = 0;
-      highest = 0;
-      transfer = 0;
-      revoked = 0;
-      claimed = 0;
-      renewals = 0;
-      registered = false;
-      expired = false;
-      weak = false;
-    })
+zeros = stored (bare (replicate 32 0) [] (outpoint (replicate 32 0) 0))
 
 -- what is handed out: an outcome, and beside it a state where it was not refused
 abbrev pub beside : Outcome State → NameState → Outcome Unit × NameState

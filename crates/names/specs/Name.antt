@@ -38,9 +38,9 @@ reserved s =
 unfoldable pub validName : List ℕ → Bool
 validName s =
     leb 1 (length s) && leb (length s) 63
-    && not (reserved s)
     && letters s
     && not (mark (getD s 0 0)) && not (mark (getD s (length s - 1) 0))
+    && not (reserved s)
 
 -- "Name hash: SHA3-256 of the name, else 6"; nothing is read, so the position is 0
 unfoldable pub nameHash : List ℕ → Outcome (List ℕ)

@@ -88,16 +88,16 @@ pub fn validate_name(name: &[u8]) -> bool
     if MAX_NAME_SIZE < n {
         return false;
     }
-    if is_reserved(name) {
-        return false;
-    }
     if !all_letters(name) {
         return false;
     }
     if is_mark(name[0]) {
         return false;
     }
-    !is_mark(name[n - 1])
+    if is_mark(name[n - 1]) {
+        return false;
+    }
+    !is_reserved(name)
 }
 
 // A name's hash; where the bytes are no name, which the Rust refuses by `InvalidName`, zeros.

@@ -11,6 +11,7 @@ use lib.Seq.{take-all}
 use Rattle.words.specs.Words.{le}
 use Rattle.words.specs.Buffers.{pick}
 use Rattle.words.specs.Sameness.{same}
+use Rattle.words.proofs.Cases.{pick-small}
 use Rattle.words.proofs.Le.{part-long}
 use Rattle.words.proofs.Sameness.{and-true}
 use Rattle.replay.specs.Answers.{part, answerOf, comparedOf, Onward}
@@ -26,10 +27,6 @@ size-part s at end e h =
 -- all from a place on
 pub rest-all : (s : List ℕ) (at : ℕ) → take (length s - at) (drop at s) ≡ drop at s
 rest-all s at = take-all (length s - at) (drop at s) (omega (arith, length-drop at s))
-
-pick-small : (b : Bool) → pick {X = ℕ} b 0 1 ≤ 1
-pick-small true = omega arith
-pick-small false = omega arith
 
 -- what is told of a record that ends after a place and within l bytes
 pub told-within :

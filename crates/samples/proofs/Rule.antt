@@ -9,6 +9,7 @@ use lib.Seq.{sets, take-all, take-at}
 use Rattle.words.specs.Words.{le, bytes, Bytes}
 use Rattle.words.specs.Buffers.{over, laid, pick}
 use Rattle.words.specs.Sameness.{same}
+use Rattle.words.proofs.Cases.{pick-small}
 use Rattle.words.proofs.Le.{bytes-le, part-bytes}
 use Rattle.words.proofs.Over.{laid-all}
 use Rattle.samples.specs.Vectors.{ruled, made, hashOf, takes, Sized, Takes, compared}
@@ -48,10 +49,6 @@ pub takes-sized : (f : Function) (n : ℕ) (v : Vector) → Sized n v → takes 
 takes-sized f n (Vector.Given start m next) e h = rw e h
 takes-sized f n (Vector.Made m next) e h = rw e h
 takes-sized f n Vector.Broken e h = tt
-
-pick-small : (b : Bool) → pick {X = ℕ} b 0 1 ≤ 1
-pick-small true = omega arith
-pick-small false = omega arith
 
 -- what is told of a vector that lies within l bytes
 pub told-within :

@@ -1,6 +1,7 @@
 pub mod Spelling
 pub mod Reading
 pub mod Whole
+pub mod Counts
 pub mod Viewing
 pub mod Same
 pub mod One

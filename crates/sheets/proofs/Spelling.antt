@@ -1,12 +1,13 @@
--- Numbers with the highest byte first: one byte more, and how large they get.
-use mathlib.Core.Path.{_≡_}
+-- Numbers with the highest byte first: one byte more, how large they get, and that as many bytes spell one number only.
+use mathlib.Core.Path.{_≡_, refl, ap₂}
 use Prim.Native.Nat.{ℕ, suc, _+_, _*_, _^_, _≤_, _<_}
 use native.Mathlib.Omega.{arith}
 use native.Mathlib.Nat.{pow-suc, pow-le-pow-right}
 use native.Mathlib.Numerals.{add-one}
-use mathlib.Core.List.{List}
+use mathlib.Core.List.{List, [], _∷_}
 use lib.ListN.{length, take, drop, getD}
 use lib.Seq.{drop-cons}
+use Rattle.words.specs.Words.{Bytes}
 use Rattle.sheets.specs.Sheet.{spell}
 
 -- the bytes from at on, the first apart
@@ -28,3 +29,14 @@ room v i h k =
     let few : i ≤ 7 = omega arith in
     let p : 256 ^ i ≤ 256 ^ 7 = pow-le-pow-right (omega arith) few in
     omega arith
+
+-- as many bytes that spell the same are the same
+pub spell-one : (v w : ℕ) (xs ys : List ℕ) → length xs ≡ length ys → Bytes xs → Bytes ys → spell v xs ≡ spell w ys → (v ≡ w) × (xs ≡ ys)
+unfolding spell
+spell-one v w [] [] l b c e = (e, refl)
+spell-one v w [] (y ∷ ys) l b c e = absurd (omega arith)
+spell-one v w (x ∷ xs) [] l b c e = absurd (omega arith)
+spell-one v w (x ∷ xs) (y ∷ ys) l b c e =
+    let r = spell-one (v * 256 + x) (w * 256 + y) xs ys (omega arith) (λ i. b (suc i)) (λ i. c (suc i)) e in
+    let p : x ≡ y = omega (arith, r .0, b 0, c 0) in
+    (omega (arith, r .0, b 0, c 0), ap₂ (λ h t. h ∷ t) p (r .1))

@@ -5,7 +5,7 @@ use native.Mathlib.Omega.{arith}
 use native.Mathlib.Nat.{add-zero, add-suc, pow-suc, lt-of-lt-of-le, pow-le-pow-right, div-lt-iff-lt-mul}
 use mathlib.Core.List.{List, [], _∷_, _++_}
 use lib.ListN.{length, take, drop, getD, replicate, length-append, length-replicate, length-take, length-drop}
-use lib.Seq.{drop-cons, getD-drop, take-all}
+use lib.Seq.{drop-cons, getD-drop, take-all, take-take}
 use Rattle.words.specs.Words.{le, bytes, Bytes}
 use Rattle.words.specs.Buffers.{laid}
 use Rattle.words.proofs.Over.{over-zeros}
@@ -104,3 +104,17 @@ part-bytes s at n b = bytes-take n (drop at s) (bytes-drop at s b)
 -- n bytes from at on, where they are all there
 pub part-long : (s : List ℕ) (at n : ℕ) → at + n ≤ length s → length (take n (drop at s)) ≡ n
 part-long s at n h = simp (length-take, length-drop) (omega arith)
+
+-- a part of what was cut off is a part of the whole
+pub part-of-part : (n k m : ℕ) (l : List ℕ) → k + n ≤ m → take n (drop k (take m l)) ≡ take n (drop k l)
+part-of-part n zero m l h = take-take n m l (omega arith)
+part-of-part n (suc k) zero l h = absurd (omega arith)
+part-of-part n (suc k) (suc m) [] h = refl
+part-of-part n (suc k) (suc m) (x ∷ l) h = part-of-part n k m l (omega arith)
+
+-- equal words are equal bytes
+pub word-one : (s t : List ℕ) (p q : ℕ) → Bytes s → Bytes t → p + 8 ≤ length s → q + 8 ≤ length t → le (take 8 (drop p s)) ≡ le (take 8 (drop q t)) → take 8 (drop p s) ≡ take 8 (drop q t)
+word-one s t p q b c h k e =
+    sym (bytes-le 8 (take 8 (drop p s)) (part-long s p 8 h) (part-bytes s p 8 b))
+    ∙ ap (bytes 8) e
+    ∙ bytes-le 8 (take 8 (drop q t)) (part-long t q 8 k) (part-bytes t q 8 c)

@@ -5,11 +5,13 @@ use native.Mathlib.Omega.{arith}
 use native.Mathlib.Numerals.{add-one}
 use mathlib.Core.List.{List, [], _∷_, _++_}
 use mathlib.Core.Bool.{Bool, true, false, _&&_}
-use lib.ListN.{length, drop, getD}
-use lib.Seq.{drop-cons, drop-length, drop-nil}
+use lib.ListN.{length, take, drop, getD, take-append-drop}
+use lib.Seq.{drop-cons, drop-length, drop-nil, drop-drop}
 use lib.Dec.{eqb}
 use borrow.Author.Tests.{eq-eqb, ne-eqb, eqb-true}
+use Rattle.words.specs.Words.{le, Bytes}
 use Rattle.words.specs.Sameness.{same}
+use Rattle.words.proofs.Le.{word-one}
 
 pub and-false : (b : Bool) → (b && false) ≡ false
 and-false true = refl
@@ -55,6 +57,20 @@ same-end a b i p q =
     let e : drop i a ≡ [] = ap (λ n. drop n a) p ∙ drop-length a in
     let f : drop i b ≡ [] = ap (λ n. drop n b) q ∙ drop-length b in
     rw (e, f)
+
+-- the same bytes before both
+pub same-before : (p a b : List ℕ) → same (p ++ a) (p ++ b) ≡ same a b
+unfolding same
+same-before [] a b = refl
+same-before (x ∷ p) a b = rw (eq-eqb x x refl, same-before p a b)
+
+-- a word that is the same in both is passed over
+pub same-word : (a b : List ℕ) (i : ℕ) → Bytes a → Bytes b → i + 8 ≤ length a → i + 8 ≤ length b → le (take 8 (drop i a)) ≡ le (take 8 (drop i b)) → same (drop i a) (drop i b) ≡ same (drop (i + 8) a) (drop (i + 8) b)
+same-word a b i p q h k e =
+    let w : take 8 (drop i a) ≡ take 8 (drop i b) = word-one a b i i p q h k e in
+    let s : drop i a ≡ take 8 (drop i a) ++ drop (i + 8) a = rw (← drop-drop 8 i a) (sym (take-append-drop 8 (drop i a))) in
+    let t : drop i b ≡ take 8 (drop i a) ++ drop (i + 8) b = rw (w, ← drop-drop 8 i b) (sym (take-append-drop 8 (drop i b))) in
+    ap₂ same s t ∙ same-before (take 8 (drop i a)) (drop (i + 8) a) (drop (i + 8) b)
 
 -- the same bytes after both
 pub same-append : (a b zs : List ℕ) → length a ≡ length b → same a b ≡ same (a ++ zs) (b ++ zs)

@@ -14,7 +14,7 @@ fn byte(m: &[u8], i: usize) -> u64
 }
 
 // Eight bytes that are all there: compiled to one load.
-fn whole_word(m: &[u8], at: usize) -> u64
+pub(crate) fn whole_word(m: &[u8], at: usize) -> u64
     requires { ⌜ at + 8 ≤ length (now m) ⌝ }
     ensures { λ r. ⌜ r ≡ le (take 8 (drop at (now (m .entry)))) ⌝ }
 {
