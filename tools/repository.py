@@ -20,6 +20,8 @@ BLOCK = re.compile(r"\b(?P<kind>impl|mod)\b\s*(?:<[^>{};]*>\s*)?(?:\w+\s*::\s*)*
 HEADER_TOKEN = re.compile(r"\w+|[()\[\]{};]")
 BRACE = re.compile(r"[{}]")
 CLAUSES = ("requires", "ensures", "ghost")
+PARAMETER = re.compile(r"(\w+)\s*:(?!:)")
+ENSURES = re.compile(r"\bensures\s*\{")
 
 BACKTICKED = re.compile(r"`([^`]+)`")
 
@@ -40,6 +42,7 @@ class Function(NamedTuple):
     line: int
     public: bool
     clauses: Optional[FrozenSet[str]]
+    parameters: FrozenSet[str]
 
 
 def report(summary, findings):
@@ -158,8 +161,21 @@ def functions_of(code):
         owner = "".join(name for kind, name in around if kind == "impl")
         line = line_at(code, match.start("name"))
         header = header_from(code, match.end())
-        functions.append(Function(match["name"], modules, owner, line, bool(match["public"]), header and header[0]))
+        signature = code[match.end() : header[1]] if header else ""
+        parameters = frozenset(PARAMETER.findall(re.split(r"->|\b(?:requires|ensures|ghost)\b", signature)[0]))
+        functions.append(Function(match["name"], modules, owner, line, bool(match["public"]), header and header[0], parameters))
     return functions
+
+
+def ensures_of(text, function):
+    """What stands in the braces of the `ensures` of a function, one of those that `functions_of` found in the text's code."""
+    code = rattle_code(text)
+    start = next(match for match in FUNCTION.finditer(code) if line_at(code, match.start("name")) == function.line)
+    header = header_from(code, start.end())
+    held = []
+    for match in ENSURES.finditer(code, start.end(), header[1] if header else start.end()):
+        held.append(text[match.end() : closing_brace(code, match.end() - 1)])
+    return held
 
 
 def only_section(text, heading):

@@ -32,7 +32,7 @@ headAt allowance s at =
     then (compactMost 1000 s next)
     (λ count next. then (allowed allowance at next) (λ left next. ok (kind, count) next)))
 
--- a covenant that was read: its kind, where its items stand, and "the bytes used up from the allowance"
+-- a covenant that was read: its kind, where its items stand, and "The bytes used up from the allowance"
 pub record Reading : Type 0 where
   pub kind : ℕ
   pub items : List (ℕ × ℕ)

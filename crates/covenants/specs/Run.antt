@@ -1,5 +1,5 @@
--- The run reader: "hands out back-to-back covenants .. It ends with their count when no bytes are left, or with the first refusal and the count
--- before it" (document 01, "Sheets and reports").
+-- The run reader: "hands out back-to-back covenants, 1,000,009 allowed for each. It ends with their count when no bytes are left, or with the first
+-- refusal and the count before it" (document 01, "Sheets and reports"). The allowance is an argument here; any above 1,000,009 counts as that (`covenantAt`).
 use Prim.Native.Nat.{ℕ, zero, suc, _+_, _%_, _^_}
 use mathlib.Core.List.{List, [], _∷_}
 use lib.ListN.{length}

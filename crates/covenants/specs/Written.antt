@@ -14,7 +14,7 @@ unfoldable pub itemsBytes : List (List ℕ) → List ℕ
 itemsBytes [] = []
 itemsBytes (item ∷ items) = varbytes item ++ itemsBytes items
 
--- "Kind byte; compact count, and each item a compact length, then its bytes"
+-- "Kind byte; compact count, .. and each item a compact length, .. then its bytes"
 unfoldable pub covenantBytes : ℕ → List (List ℕ) → List ℕ
 covenantBytes kind items = kind ∷ (compact (length items) ++ itemsBytes items)
 

@@ -83,7 +83,7 @@ pub(crate) enum ReadHead {
     Refused(Stop),
 }
 
-// More than the allowance was consumed.
+// 5: more bytes than are allowed, be it those consumed, those that a length asks for, those of the whole input, or the two of the least covenant.
 pub(crate) fn too_large(actual: usize, maximum: usize, position: usize) -> Stop
     ensures { λ r. ⌜ (r .refusal ≡ Refusal.TooLarge actual maximum) × (r .position ≡ position) ⌝ }
 {

@@ -34,8 +34,8 @@ pub enum RunEnd {
 }
 
 impl Run {
-    // What each covenant of a run is allowed.
-    pub const ALLOWANCE: usize = 1_000_009;
+    // Document 01's allowance for each covenant of a run, which a caller hands to `next` and `read_run`.
+    pub const ALLOWANCE: usize = Covenant::MAX_ENCODED_SIZE;
 
     pub fn start() -> Run
         ensures { λ r. ⌜ r ≡ runStart ⌝ }

@@ -9,7 +9,7 @@ use Rattle.refusal.specs.Outcome.{Outcome, ok, err, then, Wrote, wrote, refused
 
 -- ---- reads
 
--- "A cursor beyond its slice has 0 remaining": so many bytes are left
+-- "A cursor beyond its slice .. has 0 remaining": so many bytes are left
 unfoldable pub remainingAt : List ℕ → ℕ → ℕ
 remainingAt s at = length s - at
 
@@ -92,7 +92,7 @@ unfoldable pub varbytes : List ℕ → List ℕ
 unfolding compact
 varbytes bs = compact (length bs) ++ bs
 
--- the answer to writing bs from at on: "29 is given exactly when all earlier checks pass and the destination is shorter". It carries how many
+-- the answer to writing bs from at on: "29 is given exactly when all earlier checks pass and the destination is shorter than n". It carries how many
 -- bytes were to be written. The destination's content is `laid at bs`, which touches nothing where there is no room
 unfoldable pub putAnswer : ℕ → List ℕ → List ℕ → Wrote
 unfolding fits

@@ -12,7 +12,7 @@ use Rattle.name_state.specs.declared.Owner.{Owner}
 use Rattle.name_state.specs.declared.Class.{Class}
 use Rattle.name_state.specs.declared.Binding.{Binding}
 
--- the first n bytes of an array: "bytes past either length read as zeros and are ignored", and so are bytes past the array
+-- the first n bytes of an array, "bytes past either length .. are ignored"; where n is more than the array has, zeros stand for the others
 unfoldable pub text : ℕ → List ℕ → List ℕ
 text n bs = take n bs ++ replicate (n - length bs) 0
 

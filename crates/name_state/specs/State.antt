@@ -42,7 +42,7 @@ null t =
 abbrev pub bit : ℕ → Bool → ℕ
 bit w b = pick b w 0
 
--- "present fields by bit: 0 owner, 1 value, 2 highest, 3 transfer, 4 revoked, 5 claimed, 6 renewals; 7 registered, 8 expired, 9 weak": a field is
+-- "present fields by bit: 0 owner .., 1 value, 2 highest .., 3 transfer, 4 revoked, 5 claimed .., 6 renewals ..; 7 registered, 8 expired, 9 weak": a field is
 -- present where it is not the null outpoint, not zero, or set
 unfoldable pub bitmap : State → ℕ
 bitmap t =

@@ -59,7 +59,7 @@ pub enum Binding {
     OtherKey,
 }
 
-// Four pairs of equal numbers: two heights and two amounts,
+// Four pairs of equal numbers: two heights and two amounts.
 pub(crate) fn equal_numbers(a: u32, x: u32, b: u32, y: u32, c: u64, z: u64, d: u64, w: u64) -> bool
     ensures { λ r. ⌜ r ≡ (eqb a x && eqb b y && eqb c z && eqb d w) ⌝ }
 {
@@ -75,7 +75,7 @@ pub(crate) fn equal_numbers(a: u32, x: u32, b: u32, y: u32, c: u64, z: u64, d: u
     d == w
 }
 
-// or three heights and a count.
+// Four pairs of equal numbers: three heights and a count.
 pub(crate) fn equal_times(a: u32, x: u32, b: u32, y: u32, c: u32, z: u32, d: u32, w: u32) -> bool
     ensures { λ r. ⌜ r ≡ (eqb a x && eqb b y && eqb c z && eqb d w) ⌝ }
 {
@@ -96,7 +96,7 @@ fn flag(present: bool, weight: u16) -> u16
 fn name_binding(name: [u8; 63], n: usize, key: NameHash) -> Binding
     ensures { λ r. ⌜ boundPaper r ≡ keyed (nameHash (text n name)) (key .0) ⌝ }
 {
-    if 63 < n {
+    if NameState::MAX_NAME_SIZE < n {
         return Binding::NoName;
     }
     let hashed = hash_name(&name[..n]);
@@ -113,7 +113,7 @@ fn name_binding(name: [u8; 63], n: usize, key: NameHash) -> Binding
 }
 
 impl NameState {
-    pub const MAX_NAME_SIZE: usize = 63;
+    pub const MAX_NAME_SIZE: usize = names::MAX_NAME_SIZE;
 
     pub const MAX_RESOURCE_SIZE: usize = 512;
 

@@ -62,7 +62,7 @@ checkedSize t =
 unfoldable pub encodeAnswer : State → List ℕ → Wrote
 encodeAnswer t d = next (checkedSize t) (λ n. putAnswer 0 (stateBytes t) d)
 
--- "A write fills exactly the first n bytes; the rest is untouched"; a refused write changes nothing
+-- "A write fills exactly the first n bytes ..; the rest is untouched"; a refused write changes nothing
 abbrev pub content : Wrote → List ℕ → List ℕ → List ℕ
 content (wrote n) bs d = over 0 bs d
 content (refused k vs) bs d = d

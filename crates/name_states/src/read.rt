@@ -6,6 +6,7 @@ use encoding::read::ReadU8;
 use encoding::read::ReadU16;
 use encoding::read::ReadU32;
 use encoding::read::ReadU64;
+use name_state::NameState;
 use primitives::Outpoint;
 use primitives::ReadOutpoint;
 use primitives::TransactionHash;
@@ -108,7 +109,7 @@ fn read_name(s: &[u8], c: Cursor) -> ReadSpan
     ensures { λ r. ⌜ spanPaper r ≡ textAt 1 63 1 (now (s .entry)) (c .position) ⌝ }
 {
     match c.read_u8(s) {
-        ReadU8::Value(n, next) => read_body(s, next, n as usize, 63, 1),
+        ReadU8::Value(n, next) => read_body(s, next, n as usize, NameState::MAX_NAME_SIZE, 1),
         ReadU8::Refused(stop) => ReadSpan::Refused(stop),
     }
 }
@@ -117,7 +118,7 @@ fn read_resource(s: &[u8], c: Cursor) -> ReadSpan
     ensures { λ r. ⌜ spanPaper r ≡ textAt 2 512 2 (now (s .entry)) (c .position) ⌝ }
 {
     match c.read_u16_le(s) {
-        ReadU16::Value(n, next) => read_body(s, next, n as usize, 512, 2),
+        ReadU16::Value(n, next) => read_body(s, next, n as usize, NameState::MAX_RESOURCE_SIZE, 2),
         ReadU16::Refused(stop) => ReadSpan::Refused(stop),
     }
 }
@@ -263,7 +264,7 @@ fn read_amount(s: &[u8], c: Cursor, set: bool) -> ReadU64
     if !set {
         return ReadU64::Value(0, c);
     }
-    at_most(c.read_compact_size(s), 9007199254740991, 6)
+    at_most(c.read_compact_size(s), NameState::MAX_SAFE_INTEGER, 6)
 }
 
 // A height where the bit is set, else 0.

@@ -1,4 +1,4 @@
--- Sums and differences of amounts (document 01, module 3: "Amounts, heights and key bytes keep the separate kinds the Rust gives them").
+-- Sums and differences of amounts, as the Rust's `checked_add` and `checked_sub` have them (document 01, module 3: "Source decides on behaviour").
 use Prim.Native.Nat.{ℕ, _+_, _-_, _^_}
 use lib.Dec.{ltb}
 use Rattle.words.specs.Buffers.{pick}

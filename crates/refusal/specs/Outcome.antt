@@ -3,7 +3,7 @@ use Prim.Native.Nat.{ℕ, zero, suc}
 use mathlib.Core.List.{List, [], _∷_}
 
 -- a read: a value, and the position of the byte after it; or a refusal's number, what it carries, and the position where the reader then
--- stands (document 01: "A refused read also returns the position where the Rust's `Decoder` then stands")
+-- stands (document 01: "A refused read, sheets apart, also returns the position where the Rust's `Decoder` then stands")
 pub data Outcome (A : Type 0) : Type 0 where
   ok : A → ℕ → Outcome A
   err : ℕ → List ℕ → ℕ → Outcome A

@@ -27,6 +27,9 @@ ghost use Rattle.links.specs.Paper.{verifiedPaper};
 ghost use Rattle.reports.specs.Text.{refusedLine};
 ghost use Rattle.reports.specs.Link.{indexText, stoppedLine, saidLine, answerLine, judgedLine, linkLine};
 
+// The report takes so many bytes of each sheet.
+const LONGEST: usize = 32_768;
+
 // The line of a summary; returns where it ends.
 fn put_summary(d: &mut [u8], s: CovenantLinkSummary) -> usize
     requires { ⌜ 89 ≤ length (now d) ⌝ }
@@ -92,10 +95,10 @@ fn put_line(d: &mut [u8], tx: &[u8], coins: &[u8]) -> usize
     requires { ⌜ 89 ≤ length (now d) ⌝ }
     ensures { λ r. ⌜ Laid (now (d .entry)) 0 (linkLine (now (tx .entry)) (now (coins .entry))) (now (d .exit)) r × (r ≤ 89) ⌝ }
 {
-    if 32768 < tx.len() {
+    if LONGEST < tx.len() {
         return put_refused(d, 28);
     }
-    if 32768 < coins.len() {
+    if LONGEST < coins.len() {
         return put_too_long(d, judge_transaction(tx));
     }
     put_answer(d, verify_covenant_links(tx, coins))
