@@ -114,6 +114,7 @@ class CheckOne(TreeCase):
         self.assert_finds(
             {"crates/lib/proofs/One.antt": THEOREMS.replace("{r r′ : ℕ} → r ≡ 2 → r′ ≡ 2 → r ≡ r′", "(r : ℕ) → r ≡ r")},
             "crates/lib/src/lib.rt:24: lib::Right::same and right-same-one: the theorem lacks 2",
+            "crates/lib/src/lib.rt:24: lib::Right::same and right-same-one: 1 equations in the contract, 1 in the theorem",
         )
 
     def test_theorem_of_another_definition(self):
