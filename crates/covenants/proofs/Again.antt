@@ -13,7 +13,7 @@ use Rattle.encoding.proofs.Fixed.{fixed-under}
 use Rattle.encoding.proofs.Found.{Found, join, found-fixed, found-most, found-slice}
 use Rattle.covenants.specs.Covenant.{itemAt, Reading, covenantAt, bytesIn, contents}
 use Rattle.covenants.specs.Written.{itemsBytes, covenantBytes}
-use Rattle.covenants.proofs.Checks.{part-long}
+use Rattle.words.proofs.Le.{part-long}
 use Rattle.covenants.proofs.Moves.{item-read, head-read, covenant-accepted}
 
 -- how long it is

@@ -3,15 +3,17 @@ use mathlib.Core.Path.{_≡_, refl, ap, sym, _∙_}
 use Prim.Native.Nat.{ℕ, zero, suc, _+_, _-_, _≤_, _<_}
 use native.Mathlib.Omega.{arith}
 use mathlib.Core.List.{List, [], _∷_}
-use lib.ListN.{length, take, drop, getD, length-append, length-map, length-take, length-drop}
+use lib.ListN.{length, take, drop, getD, length-append, length-map}
 use lib.Dec.{ltb}
 use borrow.Author.Tests.{le-ltb, lt-ltb, ltb-false}
+use Rattle.words.proofs.Le.{part-long}
 use Rattle.refusal.proofs.Outcomes.{next-ok, checked}
 use Rattle.refusal.specs.Outcome.{wrote, refused}
 use Rattle.encoding.specs.Wire.{compact, compactSize, varbytes}
-use Rattle.encoding.proofs.Compact.{length-compact, length-varbytes}
+use Rattle.encoding.proofs.Compact.{length-compact, length-varbytes, compact-size-most}
 use Rattle.covenants.specs.Covenant.{bytesIn, contents}
 use Rattle.covenants.specs.Written.{itemsBytes, covenantBytes, itemsSize, covenantSize, parts, Held, heldFrom, sizeFrom, sizeAnswer, directoryBytes}
+use Rattle.covenants.specs.Theorems.{Short}
 
 -- ---- the directory
 
@@ -64,9 +66,6 @@ size-none starts lens used i p = rw (parts-none starts lens i p)
 
 -- ---- what it means that they pass
 
-pub part-long : (source : List ℕ) (from n : ℕ) → from + n ≤ length source → length (take n (drop from source)) ≡ n
-part-long source from n fits = simp (length-take, length-drop) (omega arith)
-
 -- an item takes its length and its bytes
 pub item-long : (source : List ℕ) (from n : ℕ) → from + n ≤ length source → length (varbytes (bytesIn source (from, n))) ≡ compactSize n + n
 item-long source from n fits =
@@ -107,11 +106,25 @@ size-all source used (p ∷ ps) {m} h e =
     let ih = size-all source (used + compactSize x + x) ps (h .1) (two .1) in
     rw long (omega arith)
 
+-- each is short, and the running size has a bound
+short-all : (source : List ℕ) (used : ℕ) (ps : List (ℕ × ℕ)) {m : ℕ} → used ≤ 1000009 → Held (length source) ps → sizeFrom used ps ≡ wrote m → Short (contents source ps) × (m ≤ 1000009)
+unfolding sizeFrom
+short-all source used [] {m} u h e = let z : used ≡ m = cc in (tt, omega arith)
+short-all source used (p ∷ ps) u h e =
+    let x = p .1 in
+    let one = checked (ltb 1000000 x) _ _ _ e in
+    let two = checked (ltb 1000009 (used + compactSize x + x)) _ _ _ (one .1) in
+    let long = part-long source (p .0) x (h .0) in
+    let ih = short-all source (used + compactSize x + x) ps (ltb-false 1000009 (used + compactSize x + x) (two .0)) (h .1) (two .1) in
+    ((rw long (ltb-false 1000000 x (one .0)), ih .0), ih .1)
+
 -- all checks of the writer passed
 pub record Passed (source starts lens : List ℕ) (count n : ℕ) : Type 0 where
   pub few : count ≤ 1000
   pub held : Held (length source) (parts starts lens 0 count)
   pub size : (kind : ℕ) → length (directoryBytes kind source starts lens count) ≡ n
+  pub short : Short (contents source (parts starts lens 0 count))
+  pub most : n ≤ 1000009
 
 pub checks-passed : (source starts lens : List ℕ) (count : ℕ) {n : ℕ} → sizeAnswer source starts lens count ≡ wrote n → Passed source starts lens count n
 unfolding sizeAnswer covenantSize
@@ -120,9 +133,12 @@ checks-passed source starts lens count {n} e =
     let one = checked (ltb 1000 count) _ _ _ e in
     let two = next-ok (heldFrom (length source) 0 ps) (one .1) in
     let held = held-all (length source) 0 ps (two .1) in
+    let shorts = short-all source (1 + compactSize count) ps (omega (arith, compact-size-most count)) held (two .2) in
     let many : length (contents source ps) ≡ count = length-map ps (bytesIn source) ∙ length-parts starts lens 0 count in
     record {
       few = ltb-false 1000 count (one .0);
       held = held;
       size = λ kind. covenant-long kind (contents source ps) ∙ rw many (sym (size-all source (1 + compactSize count) ps held (two .2)));
+      short = shorts .0;
+      most = shorts .1;
     }

@@ -3,18 +3,18 @@ use mathlib.Core.Path.{_≡_, refl, ap, ap₂, sym, _∙_}
 use Prim.Native.Nat.{ℕ, _+_, _-_, _≤_}
 use native.Mathlib.Omega.{arith}
 use mathlib.Core.List.{List, [], _∷_, _++_, append-assoc, append-nil}
-use lib.ListN.{length, take, drop, length-append, take-append-drop}
+use lib.ListN.{length, take, drop, length-append, length-map, take-append-drop}
 use lib.Seq.{take-at, take-append-seam, take-append-le, drop-append-seam}
 use Rattle.words.specs.Words.{Bytes}
 use Rattle.words.proofs.Cases.{by-order}
 use Rattle.refusal.specs.Outcome.{ok}
 use Rattle.encoding.specs.Theorems.{Lent}
 use Rattle.encoding.proofs.Back.{Stands, stands-here, stands-next}
-use Rattle.covenants.specs.Covenant.{Reading, covenantAt, contents}
-use Rattle.covenants.specs.Written.{covenantBytes, covenantSize}
-use Rattle.covenants.specs.Theorems.{Meant, written, Writable, runBytes, CovenantReadsBack, AcceptedIsWritten, UsedIsSize, SizeIsLength, RunHasOneReading, FindFindsItem, DirectoryHoldsItem, StepsAreTheRun}
+use Rattle.covenants.specs.Covenant.{Reading, covenantAt, contents, bytesIn}
+use Rattle.covenants.specs.Written.{covenantBytes, covenantSize, parts}
+use Rattle.covenants.specs.Theorems.{Meant, written, Writable, AcceptedIsWritable, runBytes, CovenantReadsBack, AcceptedIsWritten, UsedIsSize, SizeIsLength, RunHasOneReading, FindFindsItem, DirectoryHoldsItem, StepsAreTheRun}
 use Rattle.covenants.proofs.Moves.{covenant-accepted, covenant-moves}
-use Rattle.covenants.proofs.Checks.{covenant-long}
+use Rattle.covenants.proofs.Checks.{length-parts, covenant-long, checks-passed}
 use Rattle.covenants.proofs.Back.{Again, covenant-back}
 use Rattle.covenants.proofs.Again.{found-long, found-covenant}
 use Rattle.covenants.proofs.Agree.{seek-finds, directory-holds}
@@ -22,6 +22,13 @@ use Rattle.covenants.proofs.Steps.{run-last, run-more}
 
 pub size-is-length : SizeIsLength
 size-is-length c = covenant-long (c .kind) (c .items)
+
+pub accepted-is-writable : AcceptedIsWritable
+accepted-is-writable kind source starts lens count size small e =
+    let p = checks-passed source starts lens count e in
+    let ps = parts starts lens 0 count in
+    let many : length (contents source ps) ≡ count = length-map ps (bytesIn source) ∙ length-parts starts lens 0 count in
+    record { kind = small; count = omega (arith, many, p .few); short = p .short; size = omega (arith, p .size kind, p .most) }
 
 -- a covenant that stands somewhere is read there
 read-here : (s : List ℕ) (at : ℕ) (c : Meant) (rest : List ℕ) → Writable c → Lent s → Stands s at (written c) rest → Again s (c .kind) (c .items) at

@@ -1,13 +1,13 @@
--- A run of covenants has one reading: document 01's demand 3, and what it rests on. The statements; their proofs are in proofs/Theorems.antt.
+-- A run of covenants has one reading: demand 3, and what it rests on. The statements; their proofs are in proofs/Theorems.antt.
 use mathlib.Core.Path.{_≡_}
 use Prim.Native.Nat.{ℕ, suc, _+_, _-_, _≤_, _<_}
 use mathlib.Core.List.{List, [], _∷_, _++_}
 use lib.ListN.{length, take, drop}
 use Rattle.words.specs.Words.{Bytes}
-use Rattle.refusal.specs.Outcome.{ok}
+use Rattle.refusal.specs.Outcome.{ok, wrote}
 use Rattle.encoding.specs.Theorems.{Lent}
 use Rattle.covenants.specs.Covenant.{Reading, covenantAt, Said, contents}
-use Rattle.covenants.specs.Written.{covenantBytes, covenantSize}
+use Rattle.covenants.specs.Written.{covenantBytes, covenantSize, parts, sizeAnswer}
 use Rattle.covenants.specs.Items.{directoryItem, nth, seekAt}
 use Rattle.covenants.specs.Run.{End, runAt, covenant, last, stepAt}
 use Rattle.covenants.specs.Paper.{directoryOf}
@@ -26,12 +26,18 @@ abbrev pub Short : List (List ℕ) → Type 0
 Short [] = Unit
 Short (item ∷ items) = (length item ≤ 1000000) × Short items
 
--- what the writer accepts
+-- "writable": what the writer accepts (`AcceptedIsWritable`)
 pub record Writable (c : Meant) : Type 0 where
   pub kind : c .kind < 256
   pub count : length (c .items) ≤ 1000
   pub short : Short (c .items)
   pub size : length (written c) ≤ 1000009
+
+-- the covenant that a directory means is writable where the writer's contract gives its size
+abbrev pub AcceptedIsWritable : Type 0
+AcceptedIsWritable =
+    (kind : ℕ) (source starts lens : List ℕ) (count size : ℕ) → kind < 256 → sizeAnswer source starts lens count ≡ wrote size
+    → Writable (record { kind = kind; items = contents source (parts starts lens 0 count) })
 
 abbrev pub AllWritable : List Meant → Type 0
 AllWritable [] = Unit
