@@ -1,5 +1,6 @@
-// Runs hash vectors and compares: the published ones, and those that an independent tool made.
+// Runs hash vectors and compares: the published ones, and those that an independent tool made. Then runs document 01's sample lines.
 mod compare;
+mod lines;
 mod vectors;
 
 ghost use mathlib.Core.Path.{_≡_};
@@ -7,13 +8,14 @@ ghost use mathlib.Core.Bool.{true};
 ghost use Prim.Native.Nat.{_≤_};
 ghost use lib.ListN.{length};
 use crate::compare::judge;
+use crate::lines::run_lines;
 use crate::vectors::Function;
 use crate::vectors::head;
 use files::load;
 use libc::STDOUT_FILENO;
 use words::load::load_u64;
 
-fn say(name: &[u8], before: &[u8], number: u64, after: &[u8]) {
+pub(crate) fn say(name: &[u8], before: &[u8], number: u64, after: &[u8]) {
     io::write_all(STDOUT_FILENO, name);
     io::write_all(STDOUT_FILENO, before);
     io::print_decimal(STDOUT_FILENO, number);
@@ -115,4 +117,5 @@ fn main() {
         b"value_nonce.vectors",
         &mut room,
     );
+    run_lines();
 }

@@ -92,7 +92,7 @@ pub fn find(f: Function, s: &[u8], at: usize) -> Vector
 
 // The message made into the first n bytes of `out`.
 pub fn make(out: &mut [u8], n: usize)
-    requires { ⌜ (n ≤ 66000) × (n ≤ length (now out)) ⌝ }
+    requires { ⌜ (n ≤ 1000000) × (n ≤ length (now out)) ⌝ }
     ensures { λ _. ⌜ now (out .exit) ≡ over 0 (made n) (now (out .entry)) ⌝ }
 {
     let mut i: usize = 0;
