@@ -28,6 +28,7 @@ PLACED(put_u64_le, turgamysk_write_answer, uint8_t *, size_t, size_t, uint64_t);
 PLACED(put_varbytes, turgamysk_write_answer, uint8_t *, size_t, size_t, bytes, size_t);
 PLACED(covenant_read, turgamysk_covenant_answer, bytes, size_t, size_t, size_t);
 PLACED(covenant_decode, turgamysk_covenant_answer, bytes, size_t, size_t *, size_t *);
+PLACED(covenant_decode_from, turgamysk_covenant_answer, bytes, size_t, size_t, size_t, size_t *, size_t *);
 PLACED(covenant_encode, turgamysk_write_answer, uint8_t *, size_t, uint8_t, bytes, size_t, numbers, numbers, size_t);
 PLACED(covenant_encoded_size, turgamysk_write_answer, bytes, size_t, numbers, numbers, size_t);
 PLACED(covenant_run_next, turgamysk_step_answer, bytes, size_t, size_t, size_t, size_t);
@@ -38,8 +39,13 @@ PLACED(name_state_decode, turgamysk_state_answer, bytes, bytes, size_t);
 PLACED(name_state_encode, turgamysk_write_answer, turgamysk_name_state, uint8_t *, size_t);
 PLACED(name_state_encoded_size, turgamysk_write_answer, turgamysk_name_state);
 PLACED(name_state_null, turgamysk_name_state, bytes);
+PLACED(name_state_owner_outpoint, turgamysk_owner_answer, turgamysk_name_state);
+PLACED(name_line, turgamysk_write_answer, bytes, size_t, uint8_t *, size_t);
 PLACED(judge_transaction, turgamysk_sheet_answer, bytes, size_t);
 PLACED(judge_coins, turgamysk_sheet_answer, bytes, size_t);
+PLACED(sheet_input_at, turgamysk_outpoint_answer, bytes, size_t, size_t);
+PLACED(sheet_place_at, turgamysk_place_answer, bytes, size_t, size_t, uint8_t);
+PLACED(link_line, turgamysk_write_answer, bytes, size_t, bytes, size_t, uint8_t *, size_t);
 PLACED(view_item, turgamysk_view_answer, bytes, size_t, bytes, size_t, uint8_t, size_t, size_t);
 #ifdef TURGAMYSK_LINKS
 PLACED(verify_covenant_links, turgamysk_links_answer, bytes, size_t, bytes, size_t);
@@ -101,6 +107,7 @@ static void check_wire(const arguments *with) {
 static void check_covenants(const arguments *with) {
     CHECK(covenant_read, turgamysk_covenant_answer, with->source, with->length, with->position, with->limit);
     CHECK(covenant_decode, turgamysk_covenant_answer, with->source, with->length, with->starts, with->lens);
+    CHECK(covenant_decode_from, turgamysk_covenant_answer, with->source, with->length, with->position, with->limit, with->starts, with->lens);
     CHECK(covenant_encode, turgamysk_write_answer, with->room, ROOM, 1, with->source, with->length, with->starts, with->lens, with->limit);
     CHECK(covenant_encoded_size, turgamysk_write_answer, with->source, with->length, with->starts, with->lens, with->limit);
     CHECK(covenant_run_next, turgamysk_step_answer, with->source, with->length, with->limit, with->position, with->limit);
@@ -115,6 +122,8 @@ static void check_states(const arguments *with) {
     CHECK(name_state_decode, turgamysk_state_answer, with->key, with->source, with->length);
     CHECK(name_state_encode, turgamysk_write_answer, state, with->room, ROOM);
     CHECK(name_state_encoded_size, turgamysk_write_answer, state);
+    CHECK(name_state_owner_outpoint, turgamysk_owner_answer, state);
+    CHECK(name_line, turgamysk_write_answer, with->source, with->length, with->room, ROOM);
     REQUIRE(placed_name_state_null(lend_place(with->where, sizeof state), with->key) == lent_by(&answer_region));
     REQUIRE(untouched_from(&answer_region, sizeof state));
 }
@@ -122,6 +131,9 @@ static void check_states(const arguments *with) {
 static void check_sheets(const arguments *with) {
     CHECK(judge_transaction, turgamysk_sheet_answer, with->source, with->length);
     CHECK(judge_coins, turgamysk_sheet_answer, with->source, with->length);
+    CHECK(sheet_input_at, turgamysk_outpoint_answer, with->source, with->length, with->position);
+    CHECK(sheet_place_at, turgamysk_place_answer, with->source, with->length, with->position, 0);
+    CHECK(link_line, turgamysk_write_answer, with->source, with->length, with->source, with->length, with->room, ROOM);
     CHECK(view_item, turgamysk_view_answer, with->source, with->length, with->source, with->length, 0, with->position, with->limit);
 #ifdef TURGAMYSK_LINKS
     CHECK(verify_covenant_links, turgamysk_links_answer, with->source, with->length, with->source, with->length);

@@ -75,9 +75,41 @@ static void check_cut_read(lent_bytes source, size_t position, turgamysk_covenan
     REQUIRE(refused.number == 1);
 }
 
+static bool zeros_from(const size_t *numbers, size_t from) {
+    static const size_t zeros[DIRECTORY_SLOTS];
+    return memcmp(numbers + from, zeros, (DIRECTORY_SLOTS - from) * sizeof *zeros) == 0;
+}
+
+/* Items follow each other, each behind its length, from the covenant's start to its end. */
+static void check_directory(const size_t *starts, const size_t *lens, size_t count, size_t start, size_t end) {
+    size_t position = start + 1 + turgamysk_compact_size_len(count);
+    for (size_t i = 0; i < count; i++) {
+        position += turgamysk_compact_size_len(lens[i]);
+        REQUIRE(starts[i] == position);
+        REQUIRE(lens[i] <= LARGEST_ITEM);
+        position += lens[i];
+    }
+    REQUIRE(position == end);
+}
+
+/* With a directory the same is read; zeros stand behind its items, and zeros alone where nothing was read. */
+static void check_decode_from(lent_bytes source, size_t position, size_t limit, turgamysk_covenant_answer read) {
+    size_t *starts = (size_t *)(void *)lend_output(&made_starts_region, source.where, DIRECTORY_SIZE);
+    size_t *lens = (size_t *)(void *)lend_output(&made_lens_region, source.where, DIRECTORY_SIZE);
+    turgamysk_covenant_answer answer = turgamysk_covenant_decode_from(source.bytes, source.length, position, limit, starts, lens);
+    check_covenant_answer(ENTRY_covenant_decode_from, answer);
+    REQUIRE(same_covenant(answer, read));
+    REQUIRE(untouched_from(&made_starts_region, DIRECTORY_SIZE) && untouched_from(&made_lens_region, DIRECTORY_SIZE));
+    REQUIRE(zeros_from(starts, answer.count) && zeros_from(lens, answer.count));
+    if (answer.number == 0) {
+        check_directory(starts, lens, answer.count, position, answer.position);
+    }
+}
+
 static void check_read(lent_bytes source, size_t position, size_t limit, uint8_t missing) {
     turgamysk_covenant_answer answer = turgamysk_covenant_read(source.bytes, source.length, position, limit);
     check_covenant_answer(ENTRY_covenant_read, answer);
+    check_decode_from(source, position, limit, answer);
     REQUIRE(answer.position >= position);
     REQUIRE(answer.position <= source.length || answer.position == position);
     if (position > source.length) {
@@ -197,23 +229,6 @@ static const uint8_t *check_encode(directory of, uint8_t kind, size_t room) {
 
 /* ---- a covenant that is all of the bytes */
 
-static bool zeros_from(const size_t *numbers, size_t from) {
-    static const size_t zeros[DIRECTORY_SLOTS];
-    return memcmp(numbers + from, zeros, (DIRECTORY_SLOTS - from) * sizeof *zeros) == 0;
-}
-
-/* Items follow each other, each behind its length, up to the end. */
-static void check_directory(directory of) {
-    size_t position = 1 + turgamysk_compact_size_len(of.count);
-    for (size_t i = 0; i < of.count; i++) {
-        position += turgamysk_compact_size_len(of.lens[i]);
-        REQUIRE(of.starts[i] == position);
-        REQUIRE(of.lens[i] <= LARGEST_ITEM);
-        position += of.lens[i];
-    }
-    REQUIRE(position == of.source.length);
-}
-
 static turgamysk_covenant_answer decode_changed(lent_bytes changed) {
     size_t *starts = (size_t *)(void *)lend_output(&made_starts_region, changed.where, DIRECTORY_SIZE);
     size_t *lens = (size_t *)(void *)lend_output(&made_lens_region, changed.where, DIRECTORY_SIZE);
@@ -249,7 +264,7 @@ static void check_accepted(directory of, turgamysk_covenant_answer answer, const
     lent_bytes source = of.source;
     uint8_t missing = choose_byte(choose);
     REQUIRE(answer.used == source.length && answer.position == source.length);
-    check_directory(of);
+    check_directory(of.starts, of.lens, of.count, 0, source.length);
     check_items(of, choose_byte(choose) * 4u);
     const uint8_t *again = check_encode(of, answer.kind, source.length + missing % 3);
     REQUIRE(again != NULL && memcmp(again, source.bytes, source.length) == 0);

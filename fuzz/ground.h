@@ -95,14 +95,21 @@ uint8_t *lent_by(const region *lender);
     ENTRY(put_compact_size, REFUSAL(29))                                                                                                             \
     ENTRY(put_varbytes, REFUSAL(29))                                                                                                                 \
     ENTRY(outpoint_decode, REFUSALS_READ)                                                                                                            \
+    ENTRY(checked_add, 0)                                                                                                                            \
+    ENTRY(checked_sub, 0)                                                                                                                            \
     ENTRY(validate_name, REFUSAL(6))                                                                                                                 \
     ENTRY(hash_name, REFUSAL(6))                                                                                                                     \
     ENTRY(name_state_decode, REFUSAL(1) | REFUSAL(3) | REFUSAL(4) | REFUSALS_STATE_SIZE | REFUSAL(8))                                                \
     ENTRY(name_state_encode, REFUSALS_STATE_SIZE | REFUSAL(29))                                                                                      \
     ENTRY(name_state_encoded_size, REFUSALS_STATE_SIZE)                                                                                              \
     ENTRY(name_state_class, 0)                                                                                                                       \
+    ENTRY(name_state_owner_outpoint, 0)                                                                                                              \
+    ENTRY(name_state_bitmap, 0)                                                                                                                      \
+    ENTRY(name_state_validate_key_binding, REFUSAL(6) | REFUSAL(9))                                                                                  \
+    ENTRY(name_line, REFUSAL(29))                                                                                                                    \
     ENTRY(covenant_read, REFUSALS_COVENANT)                                                                                                          \
     ENTRY(covenant_decode, REFUSALS_COVENANT | REFUSAL(3))                                                                                           \
+    ENTRY(covenant_decode_from, REFUSALS_COVENANT)                                                                                                   \
     ENTRY(covenant_encode, REFUSAL(5) | REFUSAL(29) | REFUSAL(30))                                                                                   \
     ENTRY(covenant_encoded_size, REFUSAL(5) | REFUSAL(30))                                                                                           \
     ENTRY(covenant_run_next, REFUSALS_COVENANT)                                                                                                      \
@@ -115,7 +122,10 @@ uint8_t *lent_by(const region *lender);
     ENTRY(covenant_item_name_hash, 0)                                                                                                                \
     ENTRY(judge_transaction, REFUSALS_SHEET)                                                                                                         \
     ENTRY(judge_coins, REFUSALS_SHEET)                                                                                                               \
+    ENTRY(sheet_input_at, REFUSAL(1))                                                                                                                \
+    ENTRY(sheet_place_at, REFUSALS_COVENANT | REFUSAL(27))                                                                                           \
     ENTRY(view_item, 0)                                                                                                                              \
+    ENTRY(link_line, REFUSAL(29))                                                                                                                    \
     ENTRY(verify_covenant_links, REFUSALS_LINKS)
 
 #define ENTRY_NUMBER(name, refusals) ENTRY_##name,

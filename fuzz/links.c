@@ -1,4 +1,5 @@
-/* The link verifier over two sheets: its summary, and that the ground of each refusal is there. */
+/* The link verifier over two sheets: its summary, that the ground of each refusal is there, and the report's line. */
+#include "lines.h"
 #include "walk.h"
 
 #include <string.h>
@@ -7,13 +8,14 @@
 #error "the header does not declare turgamysk_verify_covenant_links"
 #endif
 
-enum { START_SIZE = 4 };
+enum { START_SIZE = 4, LARGEST_REPORTED = 32768 };
 
-static region transaction_region, coins_region;
+static region transaction_region, coins_region, line_region;
 
 void prepare(void) {
     make_input_region(&transaction_region, LONGEST_PAYLOAD);
     make_input_region(&coins_region, LONGEST_PAYLOAD);
+    make_output_region(&line_region, 2 * LONGEST_LINE);
 }
 
 typedef struct {
@@ -255,11 +257,41 @@ static verified verify(const sheet *transaction, const sheet *coins) {
     return made;
 }
 
+/* ---- the report */
+
+/* "at" gives the index for 12 to 26; each sheet is refused by 28 before it is judged where it is too long for the report. */
+static line expected_line(const verified *of) {
+    turgamysk_links_answer answer = of->answer;
+    if (of->transaction->length > LARGEST_REPORTED) {
+        return refused_line(28);
+    }
+    if (of->transaction->answer.number != 0) {
+        return refused_line(of->transaction->answer.number);
+    }
+    if (of->coins->length > LARGEST_REPORTED) {
+        return refused_line(28);
+    }
+    if (answer.number == 0) {
+        return summary_line(answer);
+    }
+    return 12 <= answer.number && answer.number <= 26 ? refused_line_at(answer.number, answer.first) : refused_line(answer.number);
+}
+
+static void check_link_line(const verified *of, layout where, size_t room) {
+    const sheet *transaction = of->transaction;
+    const sheet *coins = of->coins;
+    uint8_t *out = lend_output(&line_region, where, room);
+    turgamysk_write_answer answer = turgamysk_link_line(transaction->bytes, transaction->length, coins->bytes, coins->length, out, room);
+    check_line(ENTRY_link_line, &line_region, room, answer, expected_line(of));
+}
+
 void play(test_case given) {
     size_t split = transaction_length(&given);
     sheet transaction = judge(&transaction_region, given.where, given.payload, split, TRANSACTION);
     sheet coins = judge(&coins_region, given.where, given.payload + split, given.length - split, COINS);
     verified answer = verify(&transaction, &coins);
+    check_link_line(&answer, given.where, LONGEST_LINE);
+    check_link_line(&answer, given.where, choose_byte(&given.choose) % LONGEST_LINE);
     if (transaction.answer.number != 0) {
         check_sheet_refusal(&answer, &transaction);
     } else if (coins.answer.number != 0) {

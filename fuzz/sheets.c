@@ -1,4 +1,4 @@
-/* Sheets: judged whole, and their items viewed. */
+/* Sheets: judged whole, their records read one by one, and their items viewed. */
 #include "walk.h"
 
 #include <string.h>
@@ -37,6 +37,92 @@ static void check_changed_length(const sheet *of, const uint8_t *payload, uint8_
     sheet more = judge(&changed_region, of->where, longer, of->length + 1, of->side);
     REQUIRE(same_verdict(VERDICT(more.answer), (verdict){3, 1, 0, 0}));
 }
+
+/* ---- single records */
+
+static bool outpoint_stands_at(const sheet *of, size_t position, turgamysk_outpoint outpoint) {
+    const uint8_t *bytes = of->bytes + position;
+    return memcmp(outpoint.transaction_hash, bytes, HASH_SIZE) == 0 && outpoint.index == big_endian(bytes + HASH_SIZE, 4);
+}
+
+/* Any 36 bytes are an input; fewer are refused. */
+static void check_input_at(const sheet *of, size_t position) {
+    static const turgamysk_outpoint zeros;
+    turgamysk_outpoint_answer answer = turgamysk_sheet_input_at(of->bytes, of->length, position);
+    answered(ENTRY_sheet_input_at, VERDICT(answer));
+    witness(answer.position);
+    bool inside = position <= of->length;
+    bool there = inside && OUTPOINT_SIZE <= of->length - position;
+    REQUIRE((answer.number == 0) == there);
+    REQUIRE(answer.position == position + (there ? OUTPOINT_SIZE : 0));
+    if (there) {
+        REQUIRE(outpoint_stands_at(of, position, answer.outpoint));
+        return;
+    }
+    REQUIRE(answer.first == position && answer.second == position + (inside ? OUTPOINT_SIZE : 0) - of->length);
+    REQUIRE(memcmp(&answer.outpoint, &zeros, sizeof zeros) == 0);
+}
+
+static bool same_place(turgamysk_place_answer one, turgamysk_place_answer other) {
+    return same_verdict(VERDICT(one), VERDICT(other)) && one.position == other.position && one.value == other.value && one.version == other.version &&
+           one.start == other.start && one.size == other.size && one.covenant == other.covenant && one.kind == other.kind;
+}
+
+/* The parts of an output follow each other, and its covenant is the one that the reader gives there. */
+static void check_accepted_place(const sheet *of, size_t position, turgamysk_place_answer answer) {
+    const uint8_t *fields = of->bytes + position;
+    REQUIRE(answer.value == big_endian(fields, 8) && answer.version == fields[8] && answer.size == fields[9]);
+    REQUIRE(answer.start == position + OUTPUT_FIELDS_SIZE && answer.covenant == answer.start + answer.size);
+    turgamysk_covenant_answer covenant = turgamysk_covenant_read(of->bytes, of->length, answer.covenant, LARGEST_COVENANT);
+    REQUIRE(covenant.number == 0 && covenant.kind == answer.kind && covenant.position == answer.position);
+}
+
+static turgamysk_place_answer check_place_at(const sheet *of, size_t position) {
+    turgamysk_place_answer answer = turgamysk_sheet_place_at(of->bytes, of->length, position, of->side);
+    answered(ENTRY_sheet_place_at, VERDICT(answer));
+    witness(answer.position);
+    REQUIRE(answer.position >= position);
+    if (answer.number == 0) {
+        check_accepted_place(of, position, answer);
+        return answer;
+    }
+    turgamysk_place_answer zeros = {answer.number, answer.first, answer.second, answer.third, answer.position, 0, 0, 0, 0, 0, 0};
+    REQUIRE(same_place(answer, zeros));
+    REQUIRE(answer.number != 27 || (answer.first == of->side && answer.second == position + 9 && of->bytes[position + 9] >= 64));
+    if (position > of->length) {
+        REQUIRE(same_verdict(VERDICT(answer), (verdict){1, position, position - of->length, 0}));
+    }
+    return answer;
+}
+
+/* The side is what 27 carries, and nothing else. */
+static void check_other_side(const sheet *of, size_t position, uint8_t side) {
+    turgamysk_place_answer expected = check_place_at(of, position);
+    expected.first = expected.number == 27 ? side : expected.first;
+    REQUIRE(same_place(turgamysk_sheet_place_at(of->bytes, of->length, position, side), expected));
+}
+
+/* A judged sheet's records stand where a walk finds them. */
+static void check_records(const sheet *of) {
+    for (size_t i = 0; i < RECORDS_CHECKED && i < of->answer.inputs; i++) {
+        check_input_at(of, outpoint_position(of, i));
+    }
+    for (size_t i = 0; i < RECORDS_CHECKED && i < record_count(of); i++) {
+        place record = record_place(of, i);
+        turgamysk_place_answer answer = check_place_at(of, record.start);
+        REQUIRE(answer.number == 0 && answer.covenant == record.covenant && answer.position == record.end);
+    }
+}
+
+static void check_any_record(const sheet *of, size_t position, uint8_t side) {
+    check_input_at(of, position);
+    check_other_side(of, position, side);
+    if (of->answer.number == 0) {
+        check_records(of);
+    }
+}
+
+/* ---- the viewer */
 
 static turgamysk_view_answer view(const sheet *transaction, const sheet *coins, uint8_t side, size_t index, size_t item) {
     turgamysk_view_answer answer = turgamysk_view_item(transaction->bytes, transaction->length, coins->bytes, coins->length, side, index, item);
@@ -97,4 +183,6 @@ void play(test_case given) {
         check_views(&transaction, &coins, &coins, index, item);
     }
     check_no_view(&transaction, &coins, index, item, chosen);
+    check_any_record(&transaction, choose_number(&given.choose, split), chosen);
+    check_any_record(&coins, choose_number(&given.choose, given.length - split), chosen);
 }

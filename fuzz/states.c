@@ -1,11 +1,11 @@
-/* Names, name states and hashes: records read under a key, states written, compared and classed, and states that no reader made. */
-#include "ground.h"
+/* Names, name states and hashes: records read under a key, states written, compared, told of and reported, and states that no reader made. */
+#include "lines.h"
 
 #include <string.h>
 
 enum { NAME_SLOTS = 63, RESOURCE_SLOTS = 512, COMMITTED_SIZE = 40 };
 
-static region key_region, record_region, changed_region, destination_region, digest_region, message_region;
+static region key_region, record_region, changed_region, destination_region, digest_region, message_region, file_region, line_region;
 
 void prepare(void) {
     make_input_region(&key_region, HASH_SIZE);
@@ -14,6 +14,8 @@ void prepare(void) {
     make_input_region(&message_region, LONGEST_PAYLOAD);
     make_output_region(&destination_region, LARGEST_STATE * 2);
     make_output_region(&digest_region, HASH_SIZE);
+    make_input_region(&file_region, HASH_SIZE + LONGEST_PAYLOAD);
+    make_output_region(&line_region, 2 * LONGEST_LINE);
 }
 
 /* ---- names and hashes */
@@ -135,6 +137,52 @@ static void check_class(const turgamysk_name_state *state) {
     REQUIRE(class == (null ? 0 : owner_is_null(state) ? 2 : 1));
 }
 
+static void check_owner(const turgamysk_name_state *state) {
+    static const turgamysk_outpoint zeros;
+    turgamysk_owner_answer answer = turgamysk_name_state_owner_outpoint(*state);
+    observed(ENTRY_name_state_owner_outpoint, answer.held, answer.outpoint.index, 0);
+    REQUIRE(answer.held == !owner_is_null(state));
+    REQUIRE(memcmp(&answer.outpoint, answer.held ? &state->owner : &zeros, sizeof zeros) == 0);
+}
+
+/* Document 01: "present fields by bit". */
+static void check_bitmap(const turgamysk_name_state *state) {
+    const bool present[] = {
+        !owner_is_null(state), state->value != 0,    state->highest != 0, state->transfer != 0, state->revoked != 0,
+        state->claimed != 0,   state->renewals != 0, state->registered,   state->expired,       state->weak,
+    };
+    uint16_t expected = 0;
+    for (size_t bit = 0; bit < sizeof present / sizeof *present; bit++) {
+        expected |= (uint16_t)(present[bit] << bit);
+    }
+    uint16_t bitmap = turgamysk_name_state_bitmap(*state);
+    observed(ENTRY_name_state_bitmap, (uint8_t)(bitmap % 32), bitmap, 0);
+    REQUIRE(bitmap == expected);
+}
+
+/* Document 01: "unless null, 6 or 9". */
+static uint8_t expected_binding(const turgamysk_name_state *state) {
+    uint8_t hash[HASH_SIZE];
+    if (is_null(state)) {
+        return 0;
+    }
+    if (!is_name(state->name, state->name_length)) {
+        return 6;
+    }
+    turgamysk_sha3_256(state->name, state->name_length, hash);
+    return memcmp(hash, state->name_hash, HASH_SIZE) == 0 ? 0 : 9;
+}
+
+/* What is told of any state. */
+static void check_told(const turgamysk_name_state *state) {
+    check_class(state);
+    check_owner(state);
+    check_bitmap(state);
+    verdict binding = {.number = turgamysk_name_state_validate_key_binding(*state)};
+    answered(ENTRY_name_state_validate_key_binding, binding);
+    REQUIRE(binding.number == expected_binding(state));
+}
+
 static void witness_state(const turgamysk_name_state *state) {
     witness_bytes(state->name_hash, HASH_SIZE);
     witness_bytes(state->name, NAME_SLOTS);
@@ -234,12 +282,33 @@ static void check_accepted(const turgamysk_name_state *state, const uint8_t *key
     REQUIRE(all_zeros(state->name + state->name_length, NAME_SLOTS - state->name_length));
     REQUIRE(all_zeros(state->resource_data + state->resource_length, RESOURCE_SLOTS - state->resource_length));
     REQUIRE(is_null(state) || is_name(state->name, state->name_length));
-    check_class(state);
+    check_told(state);
     check_comparisons(state, chosen);
     REQUIRE(check_encode(state, given.where, given.length + chosen % 3, &size) == given.length);
     REQUIRE(memcmp(lent_by(&destination_region), given.payload, given.length) == 0);
     REQUIRE(check_encode(state, given.where, given.length - 1, &size) == 0 && size == given.length);
     check_changed_length(key, given.where, given.payload, given.length, chosen);
+    size_t bitmap = 1 + state->name_length + 2 + state->resource_length + 8;
+    REQUIRE(little_endian(given.payload + bitmap, 2) == turgamysk_name_state_bitmap(*state));
+}
+
+/* ---- the report */
+
+static void check_name_line(layout where, const uint8_t *bytes, size_t length, size_t room, line expected) {
+    const uint8_t *file = lend_input(&file_region, where, bytes, length);
+    uint8_t *out = lend_output(&line_region, where, room);
+    check_line(ENTRY_name_line, &line_region, room, turgamysk_name_line(file, length, out, room), expected);
+}
+
+/* The line is about what the reader gave of the same key and record; a file without a whole key is refused by 1. */
+static void check_report(test_case given, const uint8_t *key, turgamysk_state_answer answer, size_t room) {
+    static uint8_t file[HASH_SIZE + LONGEST_PAYLOAD];
+    memcpy(file, key, HASH_SIZE);
+    memcpy(file + HASH_SIZE, given.payload, given.length);
+    uint8_t class = turgamysk_name_state_class(answer.state);
+    line expected = answer.number == 0 ? state_line(class, answer.state.name_length, given.length) : refused_line(answer.number);
+    check_name_line(given.where, file, HASH_SIZE + given.length, room, expected);
+    check_name_line(given.where, file, room % HASH_SIZE, room, refused_line(1));
 }
 
 /* The key is the hash of the name that the record begins with, or (by choice) bytes of the payload. */
@@ -260,6 +329,7 @@ static void check_record(test_case given, const uint8_t *key, uint8_t chosen) {
     if (given.length > LARGEST_STATE) {
         REQUIRE(same_verdict(VERDICT(answer), (verdict){5, given.length, LARGEST_STATE, 0}) && answer.position == 0);
     }
+    check_report(given, key, answer, chosen % (2 * LONGEST_LINE));
     if (answer.number == 0) {
         check_accepted(&answer.state, key, given, chosen);
     }
@@ -301,7 +371,7 @@ static void bind(turgamysk_name_state *state, uint8_t chosen) {
 static void check_made(const turgamysk_name_state *state, layout where, size_t room) {
     size_t size;
     size_t written = check_encode(state, where, room, &size);
-    check_class(state);
+    check_told(state);
     REQUIRE(turgamysk_name_state_same(*state, *state));
     if (written == 0) {
         return;
@@ -320,7 +390,7 @@ static void check_null(const uint8_t *key, layout where) {
     size_t size;
     turgamysk_name_state null = turgamysk_name_state_null(key);
     REQUIRE(memcmp(null.name_hash, key, HASH_SIZE) == 0 && null.name_length == 0);
-    check_class(&null);
+    check_told(&null);
     REQUIRE(turgamysk_name_state_is_null(null));
     REQUIRE(check_encode(&null, where, sizeof zeros, &size) == sizeof zeros);
     REQUIRE(memcmp(lent_by(&destination_region), zeros, sizeof zeros) == 0);

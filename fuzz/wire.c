@@ -196,6 +196,20 @@ static void check_outpoint(reading from) {
     }
 }
 
+/* ---- amounts */
+
+static void check_amount(entry by, turgamysk_amount_answer answer, uint8_t outcome, uint64_t value) {
+    observed(by, answer.outcome, answer.value, 0);
+    REQUIRE(answer.outcome == outcome);
+    REQUIRE(answer.value == (outcome == 0 ? value : 0));
+}
+
+static void check_amounts(uint64_t amount, uint64_t other) {
+    bool overflows = amount > UINT64_MAX - other;
+    check_amount(ENTRY_checked_add, turgamysk_checked_add(amount, other), overflows ? 1 : 0, amount + other);
+    check_amount(ENTRY_checked_sub, turgamysk_checked_sub(amount, other), amount < other ? 2 : 0, amount - other);
+}
+
 /* ---- writes */
 
 /* Room for a write, and where in it the bytes are to go. */
@@ -294,6 +308,8 @@ void play(test_case given) {
     check_ends(from);
     check_outpoint(from);
     uint64_t value = little_endian(given.payload, given.length < 8 ? given.length : 8);
+    check_amounts(value, choose_number(&given.choose, (size_t)value));
+    check_amounts(value, choose_number(&given.choose, (size_t)(UINT64_MAX - value)));
     check_number_writes(given.where, &given.choose, value);
     check_compact_write(given.where, &given.choose, value >> (choose_byte(&given.choose) & 63));
     check_byte_writes(given.where, &given.choose, given.payload, given.length < LONGEST_WRITE / 2 ? given.length : LONGEST_WRITE / 2);

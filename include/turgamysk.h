@@ -60,6 +60,10 @@ turgamysk_covenant_answer turgamysk_covenant_read(const uint8_t *bytes, size_t l
  */
 turgamysk_covenant_answer turgamysk_covenant_decode(const uint8_t *bytes, size_t length, size_t *starts, size_t *lens);
 
+/* The covenant at `position` of the `length` bytes, under an allowance of `limit` bytes, with its directory as above. */
+turgamysk_covenant_answer turgamysk_covenant_decode_from(const uint8_t *bytes, size_t length, size_t position, size_t limit, size_t *starts,
+                                                         size_t *lens);
+
 /*
  * A covenant of `kind` with the first `count` of the items that the 1,000 starts and lengths name in the `source_length` bytes at `source`, into
  * the first of the `dest_length` bytes at `dest`: all of it, or nothing.
@@ -130,6 +134,27 @@ turgamysk_write_answer turgamysk_name_state_encoded_size(turgamysk_name_state st
 /* 0 for a null state, 1 for one whose owner is not the null outpoint, 2 for the others. */
 uint8_t turgamysk_name_state_class(turgamysk_name_state state);
 
+/* The outpoint of the owner that a state has (`held`); zeros where it has none. */
+typedef struct {
+    bool held;
+    turgamysk_outpoint outpoint;
+} turgamysk_owner_answer;
+
+/* The owner of a state: there is one unless it is the null outpoint. */
+turgamysk_owner_answer turgamysk_name_state_owner_outpoint(turgamysk_name_state state);
+
+/*
+ * Which fields the record of a state shows, by bit: 0 owner, 1 value, 2 highest, 3 transfer, 4 revoked, 5 claimed, 6 renewals, 7 registered, 8 expired,
+ * 9 weak.
+ */
+uint16_t turgamysk_name_state_bitmap(turgamysk_name_state state);
+
+/*
+ * Whether the key of a state is the hash of its name, or nothing binds them because the state is null: 0; or the refusal's number: 6 where the name is
+ * no name, 9 where the key is not its hash.
+ */
+uint8_t turgamysk_name_state_validate_key_binding(turgamysk_name_state state);
+
 /* Whether all but the key and the name is zero, empty, unset or the null outpoint. */
 bool turgamysk_name_state_is_null(turgamysk_name_state state);
 
@@ -138,42 +163,6 @@ turgamysk_name_state turgamysk_name_state_null(const uint8_t *key);
 
 /* Whether two states are the same: key, name, resource and every other field. */
 bool turgamysk_name_state_same(turgamysk_name_state state, turgamysk_name_state other);
-
-/* ---- sheets (crates/capi/src/sheet.rt) */
-
-/*
- * How many inputs, or coins, and outputs a sheet has (`number` 0), or the refusal as above and the side of the sheet: 0 transaction, 1 coins.
- * Unused parts are zeros.
- */
-typedef struct {
-    uint8_t number;
-    size_t first;
-    size_t second;
-    size_t third;
-    uint8_t side;
-    size_t inputs;
-    size_t outputs;
-} turgamysk_sheet_answer;
-
-/* Where an item stands: `length` bytes from `offset` on. Zeros where there is none. */
-typedef struct {
-    bool exists;
-    size_t offset;
-    size_t length;
-} turgamysk_view_answer;
-
-/* The transaction sheet that is all of the `length` bytes, judged whole. */
-turgamysk_sheet_answer turgamysk_judge_transaction(const uint8_t *sheet, size_t length);
-
-/* The coin sheet that is all of the `length` bytes, judged whole; `inputs` is the number of coins, and `outputs` 0. */
-turgamysk_sheet_answer turgamysk_judge_coins(const uint8_t *sheet, size_t length);
-
-/*
- * The item of the covenant of output number `index` of the transaction sheet at `tx` (`side` 0), or of coin number `index` of the coin sheet at
- * `coins` (`side` 1), within that sheet. There is none on another side, or if either sheet is refused.
- */
-turgamysk_view_answer turgamysk_view_item(const uint8_t *tx, size_t tx_length, const uint8_t *coins, size_t coins_length, uint8_t side,
-                                          size_t index, size_t item);
 
 /* ---- reads and writes (crates/capi/src/wire.rt) */
 
@@ -260,6 +249,78 @@ turgamysk_outpoint_answer turgamysk_outpoint_decode(const uint8_t *source, size_
 void turgamysk_outpoint_encode(turgamysk_outpoint outpoint, uint8_t *encoded);
 bool turgamysk_outpoint_same(turgamysk_outpoint outpoint, turgamysk_outpoint other);
 bool turgamysk_outpoint_is_null(turgamysk_outpoint outpoint);
+
+/* ---- amounts (crates/capi/src/amounts.rt) */
+
+/* A sum or a difference (`outcome` 0), or why there is none: 1 for an overflow, 2 for an underflow, and then `value` is 0. */
+typedef struct {
+    uint8_t outcome;
+    uint64_t value;
+} turgamysk_amount_answer;
+
+/* The sum of two amounts, which is an overflow from 2^64 on; and their difference, which is an underflow below 0. */
+turgamysk_amount_answer turgamysk_checked_add(uint64_t amount, uint64_t other);
+turgamysk_amount_answer turgamysk_checked_sub(uint64_t amount, uint64_t other);
+
+/* ---- sheets (crates/capi/src/sheet.rt) */
+
+/*
+ * How many inputs, or coins, and outputs a sheet has (`number` 0), or the refusal as above and the side of the sheet: 0 transaction, 1 coins.
+ * Unused parts are zeros.
+ */
+typedef struct {
+    uint8_t number;
+    size_t first;
+    size_t second;
+    size_t third;
+    uint8_t side;
+    size_t inputs;
+    size_t outputs;
+} turgamysk_sheet_answer;
+
+/* Where an item stands: `length` bytes from `offset` on. Zeros where there is none. */
+typedef struct {
+    bool exists;
+    size_t offset;
+    size_t length;
+} turgamysk_view_answer;
+
+/*
+ * An output that was read (`number` 0): its value, its address's version, its address's hash, which is `size` bytes from `start` on, where its covenant
+ * begins, and its covenant's kind; or the refusal as above. `position` is where the reader then stands. Unused parts are zeros.
+ */
+typedef struct {
+    uint8_t number;
+    size_t first;
+    size_t second;
+    size_t third;
+    size_t position;
+    uint64_t value;
+    uint8_t version;
+    size_t start;
+    size_t size;
+    size_t covenant;
+    uint8_t kind;
+} turgamysk_place_answer;
+
+/* The input, or the outpoint of the coin, at `position` of the `length` bytes of a sheet; its index has the highest byte first. */
+turgamysk_outpoint_answer turgamysk_sheet_input_at(const uint8_t *sheet, size_t length, size_t position);
+
+/* The output, or what follows the outpoint of the coin, at `position` of the `length` bytes of a sheet. `side` is what a refusal by 27 carries. */
+turgamysk_place_answer turgamysk_sheet_place_at(const uint8_t *sheet, size_t length, size_t position, uint8_t side);
+
+/* The transaction sheet that is all of the `length` bytes, judged whole. */
+turgamysk_sheet_answer turgamysk_judge_transaction(const uint8_t *sheet, size_t length);
+
+/* The coin sheet that is all of the `length` bytes, judged whole; `inputs` is the number of coins, and `outputs` 0. */
+turgamysk_sheet_answer turgamysk_judge_coins(const uint8_t *sheet, size_t length);
+
+/*
+ * The item of the covenant of output number `index` of the transaction sheet at `tx` (`side` 0), or of coin number `index` of the coin sheet at
+ * `coins` (`side` 1), within that sheet. There is none on another side, or if either sheet is refused.
+ */
+turgamysk_view_answer turgamysk_view_item(const uint8_t *tx, size_t tx_length, const uint8_t *coins, size_t coins_length, uint8_t side,
+                                          size_t index, size_t item);
 
 /* ---- runs, items and kinds (crates/capi/src/items.rt) */
 
@@ -348,6 +409,21 @@ typedef struct {
 
 /* Whether the transaction of the `tx_length` bytes at `tx` and the coins of the `coins_length` bytes at `coins` keep the link rules. */
 turgamysk_links_answer turgamysk_verify_covenant_links(const uint8_t *tx, size_t tx_length, const uint8_t *coins, size_t coins_length);
+
+/* ---- report lines (crates/capi/src/lines.rt) */
+
+/*
+ * The line that the link report prints of two sheets, its newline with it, into the first of the `out_length` bytes at `out`: all of it, or nothing. As
+ * in the report, a sheet of more than 32,768 bytes is refused by 28. A line has at most 89 bytes.
+ */
+turgamysk_write_answer turgamysk_link_line(const uint8_t *tx, size_t tx_length, const uint8_t *coins, size_t coins_length, uint8_t *out,
+                                           size_t out_length);
+
+/*
+ * The line that the name report prints of the `length` bytes at `file`, which are a key of 32 bytes and then a record, its newline with it, into the first
+ * of the `out_length` bytes at `out`: all of it, or nothing. A line has at most 64 bytes.
+ */
+turgamysk_write_answer turgamysk_name_line(const uint8_t *file, size_t length, uint8_t *out, size_t out_length);
 
 #ifdef __cplusplus
 }

@@ -1,5 +1,6 @@
 /*
- * What a program in C does with the entries: it hashes, reads and writes a covenant and the state of a name, and judges sheets.
+ * What a program in C does with the entries: it hashes, adds amounts, reads and writes a covenant and the state of a name, judges sheets and makes the
+ * lines of the reports.
  *
  *     cc -I include bindings/c/example.c target/staticlib/libcapi.a -o example && ./example
  *
@@ -33,6 +34,18 @@ static void hash(void) {
     print_bytes("blake2b_256_value_nonce", digest, 32);
 }
 
+static void print_amount(const char *label, turgamysk_amount_answer answer) {
+    const char *const outcomes[] = {"", " overflow", " underflow"};
+    printf("%s %llu%s\n", label, (unsigned long long)answer.value, outcomes[answer.outcome]);
+}
+
+static void add_amounts(void) {
+    print_amount("sum", turgamysk_checked_add(UINT64_MAX - 1, 1));
+    print_amount("sum", turgamysk_checked_add(UINT64_MAX, 1));
+    print_amount("difference", turgamysk_checked_sub(7, 5));
+    print_amount("difference", turgamysk_checked_sub(5, 7));
+}
+
 static void read_covenant(const uint8_t *bytes, size_t length) {
     /* The directory takes 16 kB; it is lent, so it may live anywhere. */
     static size_t starts[1000], lens[1000];
@@ -62,6 +75,12 @@ static void read_covenants(void) {
     printf("read at 4 under 3: number %u, kind %u, %zu items, %zu bytes\n", answer.number, answer.kind, answer.count, answer.used);
     answer = turgamysk_covenant_read(good, sizeof good, 9, 1000009);
     print_refusal("read at 9", answer.number, answer.first, answer.second, answer.position);
+    const uint8_t inside[] = {0xff, 9, 1, 1, 5, 0xff};
+    static size_t starts[1000], lens[1000];
+    answer = turgamysk_covenant_decode_from(inside, sizeof inside, 1, 4, starts, lens);
+    printf("decoded at 1 under 4: kind %u, its %zu item has %zu byte at %zu\n", answer.kind, answer.count, lens[0], starts[0]);
+    answer = turgamysk_covenant_decode_from(inside, sizeof inside, 1, 3, starts, lens);
+    print_refusal("decoded at 1 under 3", answer.number, answer.first, answer.second, answer.position);
 }
 
 static void read_state(const uint8_t *key, const uint8_t *record, size_t length) {
@@ -75,6 +94,13 @@ static void read_state(const uint8_t *key, const uint8_t *record, size_t length)
     printf("state of class %u, name %.*s, height %u\n", turgamysk_name_state_class(answer.state), (int)answer.state.name_length,
            (const char *)answer.state.name, answer.state.height);
     print_bytes("written", again, written.written);
+    turgamysk_owner_answer owner = turgamysk_name_state_owner_outpoint(answer.state);
+    printf("bitmap %u, %s", turgamysk_name_state_bitmap(answer.state), owner.held ? "output" : "no owner");
+    if (owner.held) {
+        printf(" %u", owner.outpoint.index);
+    }
+    answer.state.height++;
+    printf(", with another height bound by %u\n", turgamysk_name_state_validate_key_binding(answer.state));
 }
 
 static void read_states(void) {
@@ -109,6 +135,26 @@ static void judge_sheets(void) {
     print_bytes("item", tx + view.offset, view.length);
     view = turgamysk_view_item(tx, sizeof tx, coins, sizeof coins, 1, 0, 1);
     printf("on the other side: %s\n", view.exists ? "an item" : "none");
+    turgamysk_place_answer place = turgamysk_sheet_place_at(tx, sizeof tx, 4, 0);
+    printf("output of %llu, kind %u, covenant at %zu, end at %zu\n", (unsigned long long)place.value, place.kind, place.covenant, place.position);
+    turgamysk_outpoint_answer input = turgamysk_sheet_input_at(tx, sizeof tx, 4);
+    print_refusal("input", input.number, input.first, input.second, input.position);
+}
+
+static void print_line(turgamysk_write_answer written, const uint8_t *line) {
+    printf("%zu bytes: %.*s", written.written, (int)written.written, (const char *)line);
+}
+
+static void print_lines(void) {
+    const uint8_t tx[] = {0x10, 0, 0, 0};
+    const uint8_t coins[] = {0x14, 0, 0, 0};
+    const uint8_t file[45] = {0};
+    uint8_t line[89];
+    print_line(turgamysk_link_line(tx, sizeof tx, coins, sizeof coins, line, sizeof line), line);
+    print_line(turgamysk_link_line(coins, sizeof coins, coins, sizeof coins, line, sizeof line), line);
+    print_line(turgamysk_name_line(file, sizeof file, line, sizeof line), line);
+    turgamysk_write_answer written = turgamysk_name_line(file, sizeof file, line, 26);
+    print_refusal("line", written.number, written.first, written.second, 0);
 }
 
 static void read_numbers(void) {
@@ -121,9 +167,11 @@ static void read_numbers(void) {
 
 int main(void) {
     hash();
+    add_amounts();
     read_numbers();
     read_covenants();
     read_states();
     judge_sheets();
+    print_lines();
     return 0;
 }

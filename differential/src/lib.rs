@@ -1,5 +1,6 @@
 //! Compares Turgamysk's answers with the original's, and records the original's.
 
+pub mod amounts;
 pub mod covenants;
 pub mod hashes;
 pub mod kind;

@@ -6,8 +6,9 @@ use turgamysk_differential::kind::Kind;
 use turgamysk_differential::random::Random;
 use turgamysk_differential::sheets::judge;
 use turgamysk_differential::sheets::links;
+use turgamysk_differential::sheets::places;
 use turgamysk_differential::tally::Tally;
-use turgamysk_differential::{covenants, hashes, name_states, names, oracle, wire};
+use turgamysk_differential::{amounts, covenants, hashes, name_states, names, oracle, wire};
 
 struct Arguments {
     seed: u64,
@@ -31,15 +32,18 @@ fn kinds() -> Vec<Box<dyn Kind>> {
         Box::new(hashes::Commitments),
         Box::new(wire::reads::Reads::default()),
         Box::new(wire::writes::Writes::default()),
+        Box::new(amounts::Amounts),
         Box::new(names::Names::default()),
         Box::new(covenants::read::Read::default()),
         Box::new(covenants::decode::Decode::default()),
+        Box::new(covenants::decode_from::DecodeFrom::default()),
         Box::new(covenants::encode::Encode::default()),
         Box::new(covenants::items::Items::default()),
         Box::new(covenants::runs::Runs::default()),
         Box::new(name_states::decode::Decode::default()),
         Box::new(name_states::encode::Encode::default()),
         Box::new(judge::Judge::default()),
+        Box::new(places::Places::default()),
         Box::new(links::Links::default()),
     ]
 }

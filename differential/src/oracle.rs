@@ -1,7 +1,7 @@
 //! The original's answers in the flat form of ours: document 01's number of each of its errors, with what it carries.
 
 use crate::tally::PANIC;
-use hns_covenants::{Covenant, CovenantError};
+use hns_covenants::{Covenant, CovenantError, MAX_COVENANT_ENCODED_SIZE};
 use hns_encoding::{DecodeError, Decoder};
 use std::cell::Cell;
 use std::panic::{self, AssertUnwindSafe};
@@ -106,20 +106,32 @@ fn accepted(covenant: &Covenant, position: usize) -> CovenantAnswer {
     }
 }
 
-/// `decode_from_with_limit` at a position.
-pub fn covenant_read(bytes: &[u8], position: usize, limit: usize) -> CovenantAnswer {
+/// `decode_from_with_limit` at a position, or under the largest allowance `decode_from`; and the covenant where it is accepted.
+pub fn covenant_decode_from(
+    bytes: &[u8],
+    position: usize,
+    limit: usize,
+) -> (CovenantAnswer, Option<Covenant>) {
     let mut decoder = match decoder_at(bytes, position) {
         Ok(decoder) => decoder,
-        Err(refused) => return covenant_answer(refused, position),
+        Err(refused) => return (covenant_answer(refused, position), None),
     };
     let read = guarded(|| {
-        Covenant::decode_from_with_limit(&mut decoder, limit)
-            .map_err(|error| covenant_error(&error))
+        let read = match limit {
+            MAX_COVENANT_ENCODED_SIZE => Covenant::decode_from(&mut decoder),
+            _ => Covenant::decode_from_with_limit(&mut decoder, limit),
+        };
+        read.map_err(|error| covenant_error(&error))
     });
     match read {
-        Ok(covenant) => accepted(&covenant, decoder.position()),
-        Err(refused) => covenant_answer(refused, decoder.position()),
+        Ok(covenant) => (accepted(&covenant, decoder.position()), Some(covenant)),
+        Err(refused) => (covenant_answer(refused, decoder.position()), None),
     }
+}
+
+/// What is said of it without its items.
+pub fn covenant_read(bytes: &[u8], position: usize, limit: usize) -> CovenantAnswer {
+    covenant_decode_from(bytes, position, limit).0
 }
 
 /// `decode`, and the covenant where it is accepted. Its decoder is inside it: where it stands after a refusal is seen by reading again.
@@ -131,7 +143,7 @@ pub fn covenant_decode(bytes: &[u8]) -> (CovenantAnswer, Option<Covenant>) {
 }
 
 fn stand(bytes: &[u8]) -> usize {
-    if bytes.len() > hns_covenants::MAX_COVENANT_ENCODED_SIZE {
+    if bytes.len() > MAX_COVENANT_ENCODED_SIZE {
         return 0;
     }
     let mut decoder = Decoder::new(bytes);

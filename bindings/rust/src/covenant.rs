@@ -130,25 +130,53 @@ impl<'lent> Covenant<'lent> {
         })
     }
 
-    /// The covenant where the decoder stands, under the largest allowance; the decoder moves on.
-    pub fn decode_from(decoder: &mut Decoder<'_>) -> Result<ReadCovenant, Stop> {
-        Self::decode_from_with_limit(decoder, Self::MAX_ENCODED_SIZE)
+    /// The covenant where the decoder stands, under the largest allowance, with its directory as [`Covenant::decode`] fills it; the decoder moves on.
+    pub fn decode_from<'input: 'lent>(
+        decoder: &mut Decoder<'input>,
+        directory: &'lent mut Directory,
+    ) -> Result<Self, Stop> {
+        Self::decode_from_with_limit(decoder, Self::MAX_ENCODED_SIZE, directory)
     }
 
     /// The covenant where the decoder stands, under an allowance of `limit` bytes. The decoder moves on, to where it stands after a refusal too.
     ///
     /// ```
+    /// use turgamysk::{Covenant, Decoder, Directory};
+    ///
+    /// let mut directory = Directory::new();
+    /// let mut decoder = Decoder::at(&[0xff, 9, 1, 1, 5, 0xff], 1);
+    /// let covenant = Covenant::decode_from_with_limit(&mut decoder, 4, &mut directory).unwrap();
+    /// assert_eq!((covenant.count, covenant.item_u8(0)), (1, Some(5)));
+    /// assert_eq!(decoder.position(), 5);
+    /// ```
+    pub fn decode_from_with_limit<'input: 'lent>(
+        decoder: &mut Decoder<'input>,
+        limit: usize,
+        directory: &'lent mut Directory,
+    ) -> Result<Self, Stop> {
+        let source = decoder.input();
+        let answer = entries::covenant_decode_from(source, decoder.position(), limit, directory);
+        decoder.stand_at(answer.position);
+        let read = accepted(&answer)?;
+        Ok(Self {
+            kind: read.kind,
+            source,
+            directory,
+            count: read.count,
+        })
+    }
+
+    /// [`Covenant::decode_from_with_limit`] without a directory: no item is remembered, and nothing is lent.
+    ///
+    /// ```
     /// use turgamysk::{Covenant, Decoder, Refusal};
     ///
     /// let mut decoder = Decoder::new(&[0, 0xfd, 0xe8, 3]);
-    /// let stop = Covenant::decode_from_with_limit(&mut decoder, 2).unwrap_err();
+    /// let stop = Covenant::read(&mut decoder, 2).unwrap_err();
     /// assert_eq!(stop.refusal, Refusal::TooLarge { actual: 4, maximum: 2 });
     /// assert_eq!(decoder.position(), 4);
     /// ```
-    pub fn decode_from_with_limit(
-        decoder: &mut Decoder<'_>,
-        limit: usize,
-    ) -> Result<ReadCovenant, Stop> {
+    pub fn read(decoder: &mut Decoder<'_>, limit: usize) -> Result<ReadCovenant, Stop> {
         let answer = entries::covenant_read(decoder.input(), decoder.position(), limit);
         decoder.stand_at(answer.position);
         accepted(&answer)

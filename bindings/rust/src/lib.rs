@@ -27,6 +27,7 @@ pub mod put;
 mod covenant;
 mod decoder;
 mod hashes;
+mod lines;
 mod links;
 mod name_state;
 mod names;
@@ -38,10 +39,13 @@ mod sheets;
 pub use covenant::{Covenant, CovenantKind, Directory, ReadCovenant};
 pub use decoder::Decoder;
 pub use hashes::{blake2b_256, blake2b_256_value_nonce, sha3_256};
+pub use lines::{link_line, name_line};
 pub use links::{CovenantLinkError, CovenantLinkSummary, verify_covenant_links};
 pub use name_state::{Class, NameState};
 pub use names::{blind_bid, hash_name, validate_name};
-pub use primitives::{Dollarydoos, Height, NameHash, Outpoint, TransactionHash};
+pub use primitives::{ArithmeticError, Dollarydoos, Height, NameHash, Outpoint, TransactionHash};
 pub use refusal::{Refusal, Stop};
 pub use run::{Run, RunEnd, read_run};
-pub use sheets::{SheetStop, TransactionCounts, item, judge_coins, judge_transaction};
+pub use sheets::{
+    Place, SheetStop, TransactionCounts, input_at, item, judge_coins, judge_transaction, place_at,
+};

@@ -132,6 +132,36 @@ impl NameState {
         }
     }
 
+    /// The current owner; none where it is the null outpoint.
+    pub fn owner_outpoint(&self) -> Option<Outpoint> {
+        let answer = entries::name_state_owner_outpoint(self);
+        answer.held.then_some(answer.outpoint)
+    }
+
+    /// Which fields the record shows, by bit: 0 owner, 1 value, 2 highest, 3 transfer, 4 revoked, 5 claimed, 6 renewals, 7 registered, 8 expired, 9 weak.
+    pub fn bitmap(&self) -> u16 {
+        entries::name_state_bitmap(self)
+    }
+
+    /// Whether the key is the hash of the name, unless the state is null: 6 where the name is no name, 9 where the key is not its hash.
+    ///
+    /// ```
+    /// use turgamysk::{Height, NameHash, NameState, Refusal};
+    ///
+    /// let mut state = NameState::null(&NameHash([7; 32]));
+    /// assert_eq!(state.validate_key_binding(), Ok(()));
+    /// state.height = Height(1);
+    /// assert_eq!(state.validate_key_binding(), Err(Refusal::InvalidName {}));
+    /// (state.name[0], state.name_length) = (b'a', 1);
+    /// assert_eq!(state.validate_key_binding(), Err(Refusal::NameStateHashMismatch {}));
+    /// ```
+    pub fn validate_key_binding(&self) -> Result<(), Refusal> {
+        match entries::name_state_validate_key_binding(self) {
+            0 => Ok(()),
+            number => Err(Refusal::of_answer(number, [0; 3])),
+        }
+    }
+
     /// The name; none where its length is above the array's.
     pub fn name(&self) -> Option<&[u8]> {
         self.name.get(..self.name_length)

@@ -1,13 +1,71 @@
 //! Amounts, heights, hashes and outpoints, each of its own kind as in hns-primitives.
 
 use crate::decoder::Decoder;
-use crate::entries;
+use crate::entries::{self, AmountAnswer};
 use crate::refusal::Stop;
+use core::error::Error;
+use core::fmt;
 
 /// An amount in the smallest unit of Handshake's coin.
 #[repr(transparent)]
 #[derive(Clone, Copy, Debug, Default, Eq, Hash, Ord, PartialEq, PartialOrd)]
 pub struct Dollarydoos(pub u64);
+
+/// Why there is no sum or difference.
+#[derive(Clone, Copy, Debug, Eq, Hash, PartialEq)]
+pub enum ArithmeticError {
+    /// The sum is 2^64 or more.
+    Overflow,
+    /// The difference is below 0.
+    Underflow,
+}
+
+impl fmt::Display for ArithmeticError {
+    fn fmt(&self, formatter: &mut fmt::Formatter<'_>) -> fmt::Result {
+        formatter.write_str(match self {
+            Self::Overflow => "numeric overflow",
+            Self::Underflow => "numeric underflow",
+        })
+    }
+}
+
+impl Error for ArithmeticError {}
+
+impl Dollarydoos {
+    /// The sum.
+    ///
+    /// ```
+    /// use turgamysk::{ArithmeticError, Dollarydoos};
+    ///
+    /// let one = Dollarydoos(1);
+    /// assert_eq!(one.checked_add(one), Ok(Dollarydoos(2)));
+    /// assert_eq!(one.checked_add(Dollarydoos(u64::MAX)), Err(ArithmeticError::Overflow));
+    /// ```
+    pub fn checked_add(self, other: Self) -> Result<Self, ArithmeticError> {
+        Self::of_answer(entries::checked_add(self.0, other.0))
+    }
+
+    /// The difference.
+    ///
+    /// ```
+    /// use turgamysk::{ArithmeticError, Dollarydoos};
+    ///
+    /// let one = Dollarydoos(1);
+    /// assert_eq!(one.checked_sub(one), Ok(Dollarydoos(0)));
+    /// assert_eq!(one.checked_sub(Dollarydoos(2)), Err(ArithmeticError::Underflow));
+    /// ```
+    pub fn checked_sub(self, other: Self) -> Result<Self, ArithmeticError> {
+        Self::of_answer(entries::checked_sub(self.0, other.0))
+    }
+
+    fn of_answer(answer: AmountAnswer) -> Result<Self, ArithmeticError> {
+        match answer.outcome {
+            0 => Ok(Self(answer.value)),
+            1 => Err(ArithmeticError::Overflow),
+            _ => Err(ArithmeticError::Underflow),
+        }
+    }
+}
 
 /// A block height.
 #[repr(transparent)]

@@ -1,7 +1,10 @@
-//! Sheets, judged whole, and the item viewer.
+//! Sheets, judged whole, their inputs and outputs one by one, and the item viewer.
 
+use crate::covenant::CovenantKind;
+use crate::decoder::Decoder;
 use crate::entries::{self, SheetAnswer};
-use crate::refusal::Refusal;
+use crate::primitives::{Dollarydoos, Outpoint};
+use crate::refusal::{Refusal, Stop};
 use core::error::Error;
 use core::fmt;
 
@@ -66,6 +69,57 @@ pub fn judge_transaction(sheet: &[u8]) -> Result<TransactionCounts, SheetStop> {
 /// ```
 pub fn judge_coins(sheet: &[u8]) -> Result<usize, SheetStop> {
     counts(&entries::judge_coins(sheet)).map(|counts| counts.inputs)
+}
+
+/// Where an output stands in its sheet.
+#[derive(Clone, Copy, Debug, Eq, PartialEq)]
+pub struct Place {
+    /// Its value.
+    pub value: Dollarydoos,
+    /// The version of its address.
+    pub version: u8,
+    /// Where the hash of its address begins,
+    pub start: usize,
+    /// and how many bytes that has.
+    pub size: usize,
+    /// Where its covenant begins.
+    pub covenant: usize,
+    /// Its covenant's kind.
+    pub kind: CovenantKind,
+}
+
+/// The input, or the outpoint of the coin, where the decoder stands in a sheet; the decoder moves on. The index has the highest byte first.
+pub fn input_at(decoder: &mut Decoder<'_>) -> Result<Outpoint, Stop> {
+    let answer = entries::sheet_input_at(decoder.input(), decoder.position());
+    decoder.stand_at(answer.position);
+    answer.verdict.at(answer.position).map(|()| answer.outpoint)
+}
+
+/// The output, or what follows the outpoint of the coin, where the decoder stands in a sheet; the decoder moves on. 27 carries `side`.
+///
+/// ```
+/// use turgamysk::{Decoder, Refusal, place_at};
+///
+/// let mut decoder = Decoder::new(&[0, 0, 0, 0, 0, 0, 0, 9, 4, 1, 0xaa, 7, 0]);
+/// let place = place_at(&mut decoder, 0).unwrap();
+/// assert_eq!((place.value.0, place.version, place.kind.0), (9, 4, 7));
+/// assert_eq!((place.start, place.size, place.covenant, decoder.position()), (10, 1, 11, 13));
+///
+/// let stop = place_at(&mut Decoder::new(&[0xff; 12]), 1).unwrap_err();
+/// assert_eq!(stop.refusal, Refusal::SheetField { side: 1, offset: 9 });
+/// ```
+pub fn place_at(decoder: &mut Decoder<'_>, side: u8) -> Result<Place, Stop> {
+    let answer = entries::sheet_place_at(decoder.input(), decoder.position(), side);
+    decoder.stand_at(answer.position);
+    answer.verdict.at(answer.position)?;
+    Ok(Place {
+        value: Dollarydoos(answer.value),
+        version: answer.version,
+        start: answer.start,
+        size: answer.size,
+        covenant: answer.covenant,
+        kind: CovenantKind(answer.kind),
+    })
 }
 
 /// The bytes of one item, inside the sheet of its side: of an output on side 0, of a coin on side 1. None also for another side, or if either

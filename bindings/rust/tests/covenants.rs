@@ -1,6 +1,8 @@
 //! Covenants: every function with short, long, empty and hostile arguments.
 
-use turgamysk::{Covenant, CovenantKind, Decoder, Directory, Refusal, Run, RunEnd, Stop, read_run};
+use turgamysk::{
+    Covenant, CovenantKind, Decoder, Directory, ReadCovenant, Refusal, Run, RunEnd, Stop, read_run,
+};
 
 /// Three items of 1,000,000, 0 and 0 bytes, which fill 1,000,009.
 fn largest() -> Vec<u8> {
@@ -261,15 +263,32 @@ fn a_write_takes_all_its_room_or_none() {
     assert_eq!(exact, *b"\x03\x01\x03abc");
 }
 
+/// What is read where the decoder stands; with a directory the same is read, its items are laid out, and zeros follow them.
+fn read(decoder: &mut Decoder<'_>, limit: usize) -> Result<ReadCovenant, Stop> {
+    let mut again = *decoder;
+    let found = Covenant::read(decoder, limit);
+    let mut directory = Directory::new();
+    directory.starts.fill(1);
+    directory.lengths.fill(1);
+    let decoded = Covenant::decode_from_with_limit(&mut again, limit, &mut directory);
+    let decoded = decoded.map(|covenant| (covenant.kind, covenant.count));
+    assert_eq!(decoded, found.map(|read| (read.kind, read.count)));
+    assert_eq!(again.position(), decoder.position());
+    let count = found.map_or(0, |read| read.count);
+    assert!(directory.starts[count..].iter().all(|start| *start == 0));
+    assert!(directory.lengths[count..].iter().all(|size| *size == 0));
+    found
+}
+
 #[test]
 fn a_decoder_stands_where_the_read_left_it() {
     let mut decoder = Decoder::new(&[7, 0, 8, 1, 2, 0xaa]);
-    let read = Covenant::decode_from(&mut decoder).unwrap();
+    let first = read(&mut decoder, Covenant::MAX_ENCODED_SIZE).unwrap();
     assert_eq!(
-        (read.kind, read.count, read.used),
+        (first.kind, first.count, first.used),
         (CovenantKind::UPDATE, 0, 2)
     );
-    let stop = Covenant::decode_from(&mut decoder).unwrap_err();
+    let stop = read(&mut decoder, Covenant::MAX_ENCODED_SIZE).unwrap_err();
     assert_eq!(
         stop.refusal,
         Refusal::UnexpectedEnd {
@@ -284,6 +303,55 @@ fn a_decoder_stands_where_the_read_left_it() {
 }
 
 #[test]
+fn a_covenant_inside_larger_bytes_has_its_items_there() {
+    let bytes = [0xff, 3, 2, 0, 2, 0xaa, 0xbb, 0xff];
+    let mut directory = Directory::new();
+    let mut decoder = Decoder::at(&bytes, 1);
+    let covenant = Covenant::decode_from(&mut decoder, &mut directory).unwrap();
+    assert_eq!(
+        [0, 1, 2].map(|index| covenant.item(index)),
+        [Some(&[][..]), Some(&[0xaa, 0xbb][..]), None]
+    );
+    assert_eq!(
+        (&directory.starts[..3], &directory.lengths[..3]),
+        (&[4, 5, 0][..], &[0, 2, 0][..])
+    );
+    assert_eq!(decoder.position(), 7);
+    // The same directory serves the next covenant.
+    let stop = Covenant::decode_from(&mut decoder, &mut directory).unwrap_err();
+    assert_eq!((stop.position, directory), (8, Directory::new()));
+}
+
+#[test]
+fn the_largest_covenant_is_decoded_from_a_position() {
+    let mut bytes = vec![0xff; 3];
+    bytes.extend(largest());
+    bytes.push(0xff);
+    let mut directory = Directory::new();
+    let mut decoder = Decoder::at(&bytes, 3);
+    let covenant = Covenant::decode_from(&mut decoder, &mut directory).unwrap();
+    assert_eq!(covenant.item(0).map(<[u8]>::len), Some(1_000_000));
+    assert_eq!(decoder.remaining(), 1);
+    let refusal = Refusal::TooLarge {
+        actual: 1_000_009,
+        maximum: 1_000_008,
+    };
+    let stop = read(&mut Decoder::at(&bytes, 3), 1_000_008).unwrap_err();
+    assert_eq!(stop.refusal, refusal);
+}
+
+#[test]
+fn a_thousand_items_fill_the_directory() {
+    let mut bytes = vec![0, 0xfd, 0xe8, 3];
+    bytes.resize(1004, 0);
+    let mut directory = Directory::new();
+    let mut decoder = Decoder::new(&bytes);
+    let covenant = Covenant::decode_from(&mut decoder, &mut directory).unwrap();
+    assert_eq!((covenant.count, covenant.item(999)), (1000, Some(&[][..])));
+    assert_eq!(directory.starts[999], 1004);
+}
+
+#[test]
 fn positions_beyond_the_bytes_are_refused_before_the_allowance() {
     for (length, position) in [(0, 1), (0, usize::MAX), (3, 4), (3, usize::MAX)] {
         let bytes = vec![0; length];
@@ -294,8 +362,7 @@ fn positions_beyond_the_bytes_are_refused_before_the_allowance() {
                 offset: position,
                 needed: position - length,
             };
-            let stop = Covenant::decode_from_with_limit(&mut decoder, limit);
-            assert_eq!(stop, Err(Stop { refusal, position }));
+            assert_eq!(read(&mut decoder, limit), Err(Stop { refusal, position }));
         }
     }
 }
@@ -304,7 +371,7 @@ fn positions_beyond_the_bytes_are_refused_before_the_allowance() {
 fn allowances_are_kept() {
     let bytes = [0, 1, 1, 9];
     for limit in [0, 1] {
-        let stop = Covenant::decode_from_with_limit(&mut Decoder::new(&bytes), limit).unwrap_err();
+        let stop = read(&mut Decoder::new(&bytes), limit).unwrap_err();
         assert_eq!(
             stop,
             Stop {
@@ -317,7 +384,7 @@ fn allowances_are_kept() {
         );
     }
     for (limit, actual) in [(2, 3), (3, 4)] {
-        let stop = Covenant::decode_from_with_limit(&mut Decoder::new(&bytes), limit).unwrap_err();
+        let stop = read(&mut Decoder::new(&bytes), limit).unwrap_err();
         assert_eq!(
             stop,
             Stop {
@@ -330,7 +397,7 @@ fn allowances_are_kept() {
         );
     }
     for limit in [4, 5, 1_000_009, usize::MAX] {
-        let read = Covenant::decode_from_with_limit(&mut Decoder::new(&bytes), limit);
+        let read = read(&mut Decoder::new(&bytes), limit);
         assert_eq!(read.map(|read| read.used), Ok(4));
     }
 }

@@ -1,6 +1,10 @@
 //! Sheets and the item viewer: every function with short, long, empty and hostile arguments.
 
-use turgamysk::{Refusal, SheetStop, TransactionCounts, item, judge_coins, judge_transaction};
+use turgamysk::entries::{self, OutpointAnswer, PlaceAnswer};
+use turgamysk::{
+    CovenantKind, Decoder, Dollarydoos, Outpoint, Place, Refusal, SheetStop, Stop,
+    TransactionCounts, TransactionHash, input_at, item, judge_coins, judge_transaction, place_at,
+};
 
 const EMPTY_TRANSACTION: [u8; 4] = [0x10, 0, 0, 0];
 const EMPTY_COINS: [u8; 4] = [0x14, 0, 0, 0];
@@ -161,4 +165,122 @@ fn other_items_are_absent() {
     assert_eq!(item(&transaction, &coins[..54], 0, 0, 0), None);
     assert_eq!(item(&transaction[..54], &coins, 1, 0, 0), None);
     assert_eq!(item(&[], &[], 0, 0, 0), None);
+}
+
+#[test]
+fn a_sheet_is_walked_record_by_record() {
+    let sheet = transaction();
+    let mut decoder = Decoder::at(&sheet, 4);
+    let outpoint = Outpoint {
+        transaction_hash: TransactionHash([5; 32]),
+        index: 0x0505_0505,
+    };
+    assert_eq!(input_at(&mut decoder), Ok(outpoint));
+    assert_eq!(decoder.position(), 40);
+    let place = Place {
+        value: Dollarydoos(0),
+        version: 0,
+        start: 50,
+        size: 0,
+        covenant: 50,
+        kind: CovenantKind::UPDATE,
+    };
+    assert_eq!(place_at(&mut decoder, 0), Ok(place));
+    assert_eq!(decoder.remaining(), 0);
+}
+
+#[test]
+fn numbers_of_a_record_have_the_highest_byte_first() {
+    let mut input = [0; 36];
+    input[32..].copy_from_slice(&[1, 2, 3, 4]);
+    let read = input_at(&mut Decoder::new(&input)).unwrap();
+    assert_eq!(read.index, 0x0102_0304);
+    let mut output = vec![1, 2, 3, 4, 5, 6, 7, 8, 31, 63];
+    output.extend([0xaa; 63]);
+    output.extend([11, 0]);
+    let place = place_at(&mut Decoder::new(&output), 0).unwrap();
+    assert_eq!((place.value.0, place.version), (0x0102_0304_0506_0708, 31));
+    assert_eq!((place.start, place.size, place.covenant), (10, 63, 73));
+}
+
+fn refused_place(sheet: &[u8], position: usize, side: u8) -> (Refusal, usize) {
+    let answer = entries::sheet_place_at(sheet, position, side);
+    let zeros = PlaceAnswer {
+        verdict: answer.verdict,
+        position: answer.position,
+        ..PlaceAnswer::default()
+    };
+    assert_eq!(answer, zeros, "zeros where it is refused");
+    let stop = place_at(&mut Decoder::at(sheet, position), side).unwrap_err();
+    (stop.refusal, stop.position)
+}
+
+#[test]
+fn every_beginning_of_a_record_is_refused() {
+    let sheet = transaction();
+    for length in 4..40 {
+        let refusal = Refusal::UnexpectedEnd {
+            offset: 4,
+            needed: 40 - length,
+        };
+        let stop = input_at(&mut Decoder::at(&sheet[..length], 4));
+        assert_eq!(
+            stop,
+            Err(Stop {
+                refusal,
+                position: 4
+            })
+        );
+        let answer = entries::sheet_input_at(&sheet[..length], 4);
+        let zeros = OutpointAnswer {
+            outpoint: Outpoint::ZEROS,
+            ..answer
+        };
+        assert_eq!(answer, zeros);
+    }
+    for length in 40..55 {
+        let (offset, end) = match length {
+            40..50 => (40, 50),
+            54 => (54, 55),
+            _ => (length, length + 1),
+        };
+        let refusal = Refusal::UnexpectedEnd {
+            offset,
+            needed: end - length,
+        };
+        let found = refused_place(&sheet[..length], 40, 0);
+        assert_eq!(found, (refusal, offset), "{length}");
+    }
+}
+
+#[test]
+fn records_beyond_the_sheet_are_refused() {
+    for (length, position) in [(0, 1), (0, usize::MAX), (3, 4), (3, usize::MAX)] {
+        let sheet = vec![0; length];
+        let refusal = Refusal::UnexpectedEnd {
+            offset: position,
+            needed: position - length,
+        };
+        let stop = input_at(&mut Decoder::at(&sheet, position));
+        assert_eq!(stop, Err(Stop { refusal, position }));
+        assert_eq!(refused_place(&sheet, position, 255), (refusal, position));
+    }
+}
+
+#[test]
+fn a_wrong_field_of_a_record_carries_the_side_that_was_given() {
+    let mut sheet = transaction();
+    sheet[49] = 0xc0;
+    for side in 0..=255 {
+        let field = Refusal::SheetField { side, offset: 49 };
+        assert_eq!(refused_place(&sheet, 40, side), (field, 49));
+    }
+}
+
+#[test]
+fn the_covenant_of_a_record_is_refused_by_its_codec() {
+    let mut sheet = [0; 14];
+    sheet[11..].copy_from_slice(&[0xfd, 0xfc, 0]);
+    let form = Refusal::InvalidValue { width: 16 };
+    assert_eq!(refused_place(&sheet, 0, 1), (form, 14));
 }

@@ -1,5 +1,6 @@
 //! Names and name states: every function with short, long, empty and hostile arguments.
 
+use turgamysk::entries::{self, OwnerAnswer};
 use turgamysk::{
     Class, Dollarydoos, Height, NameHash, NameState, Outpoint, Refusal, Stop, TransactionHash,
     blake2b_256_value_nonce, blind_bid, hash_name, sha3_256, validate_name,
@@ -246,4 +247,74 @@ fn a_free_state_has_no_owner_and_is_not_null() {
     assert_eq!(state.class(), Class::Null);
     state.height = Height(1);
     assert_eq!(state.class(), Class::Free);
+}
+
+#[test]
+fn the_owner_is_told_unless_it_is_null() {
+    let mut state = held();
+    assert_eq!(state.owner_outpoint(), Some(state.owner));
+    state.owner = Outpoint::ZEROS;
+    assert_eq!(state.owner_outpoint(), Some(Outpoint::ZEROS));
+    state.owner = Outpoint::NULL;
+    assert_eq!(state.owner_outpoint(), None);
+    let none = OwnerAnswer {
+        held: false,
+        outpoint: Outpoint::ZEROS,
+    };
+    assert_eq!(entries::name_state_owner_outpoint(&state), none);
+}
+
+#[test]
+fn the_bitmap_has_a_bit_for_each_field_shown() {
+    let changes: [fn(&mut NameState); 10] = [
+        |state| state.owner = Outpoint::ZEROS,
+        |state| state.value = Dollarydoos(u64::MAX),
+        |state| state.highest = Dollarydoos(1),
+        |state| state.transfer = Height(u32::MAX),
+        |state| state.revoked = Height(1),
+        |state| state.claimed = Height(1),
+        |state| state.renewals = u32::MAX,
+        |state| state.registered = true,
+        |state| state.expired = true,
+        |state| state.weak = true,
+    ];
+    let mut all = NameState::null(&NameHash([0; 32]));
+    (all.height, all.renewal) = (Height(1), Height(1));
+    (all.name_length, all.resource_length) = (usize::MAX, usize::MAX);
+    assert_eq!(all.bitmap(), 0);
+    for (bit, change) in changes.into_iter().enumerate() {
+        let mut one = NameState::null(&NameHash([0; 32]));
+        change(&mut one);
+        change(&mut all);
+        assert_eq!((one.bitmap(), all.bitmap()), (1 << bit, (2 << bit) - 1));
+    }
+}
+
+#[test]
+fn a_key_is_bound_to_its_name() {
+    let mut state = held();
+    assert_eq!(state.validate_key_binding(), Ok(()));
+    state.name_hash.0[31] ^= 1;
+    let other_key = Err(Refusal::NameStateHashMismatch {});
+    assert_eq!(state.validate_key_binding(), other_key);
+    state.owner = Outpoint::NULL;
+    assert_eq!(state.validate_key_binding(), Ok(()));
+}
+
+#[test]
+fn a_name_that_is_none_is_refused_before_the_key() {
+    for length in [0, 64, 65, 1 << 32, usize::MAX] {
+        let mut state = held();
+        state.name = [b'a'; 63];
+        state.name_length = length;
+        let no_name = Err(Refusal::InvalidName {});
+        assert_eq!(state.validate_key_binding(), no_name, "{length}");
+        state.owner = Outpoint::NULL;
+        assert_eq!(state.validate_key_binding(), Ok(()), "{length}");
+    }
+    let mut longest = held();
+    longest.name = [b'a'; 63];
+    longest.name_length = 63;
+    longest.name_hash = hash_name(&[b'a'; 63]).unwrap();
+    assert_eq!(longest.validate_key_binding(), Ok(()));
 }

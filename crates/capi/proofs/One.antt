@@ -8,9 +8,11 @@ use Rattle.words.specs.Buffers.{pick, laid}
 use Rattle.words.proofs.One.{one, one-each}
 use Rattle.sha3.specs.Sha3.{sha3}
 use Rattle.blake2b.specs.Blake2b.{blake2b}
-use Rattle.covenants.specs.Covenant.{skimmed, covenantAt, wholeCovenant}
+use Rattle.refusal.specs.Outcome.{Outcome}
+use Rattle.covenants.specs.Covenant.{Reading, skimmed, covenantAt, wholeCovenant}
 use Rattle.encoding.specs.Wire.{remainingAt, sliceAt, bytesAt, fixedAt, compactAt, compactMost, boundedAt, varbytesAt, finishAt, compact, compactSize, varbytes, putAnswer}
 use Rattle.encoding.specs.Paper.{shown}
+use Rattle.primitives.specs.Units.{sumOf, differenceOf}
 use Rattle.primitives.specs.Outpoints.{sameOutpoint, isNull, outpointBytes, outpointAt, shownOutpoint}
 use Rattle.primitives.specs.declared.Outpoint.{Outpoint}
 use Rattle.covenants.specs.Kind.{isName, isLinked, isUnspendable}
@@ -22,26 +24,32 @@ use Rattle.covenants.specs.Paper.{directoryOf}
 use Rattle.names.specs.Name.{validName, nameHash}
 use Rattle.names.specs.Paper.{shownHash}
 use Rattle.names.specs.Blind.{blindOf}
-use Rattle.name_state.specs.State.{null, sameState}
-use Rattle.name_state.specs.Paper.{stateOf, stored, nullState, classOf, classNumber}
+use Rattle.name_state.specs.State.{null, bitmap, binding, sameState}
+use Rattle.name_state.specs.Paper.{stateOf, stored, nullState, ownerOf, classOf, classNumber}
 use Rattle.name_state.specs.declared.NameState.{NameState}
 use Rattle.name_states.specs.Written as states
 use Rattle.name_states.specs.Read.{readState}
 use Rattle.name_states.specs.Paper.{shownState}
-use Rattle.sheets.specs.Sheet.{transactionCounts, coinCounts}
+use Rattle.sheets.specs.Sheet.{inputAt, placeAt, transactionCounts, coinCounts}
 use Rattle.sheets.specs.Viewer.{viewOf}
 use Rattle.links.specs.Verify.{verifyOf}
+use Rattle.reports.specs.Link.{linkLine}
+use Rattle.reports.specs.Name.{nameLine}
+use Rattle.capi.specs.Amounts.{amountFlat}
+use Rattle.capi.specs.declared.amounts.AmountAnswer.{AmountAnswer}
 use Rattle.capi.specs.Linkage.{linksFlat}
 use Rattle.capi.specs.declared.linkage.LinksAnswer.{LinksAnswer}
 use Rattle.capi.specs.Flat.{covenantFlat, writeFlat}
-use Rattle.capi.specs.States.{refusedBy, stateFlat}
-use Rattle.capi.specs.Sheet.{sheetFlat, viewFlat}
+use Rattle.capi.specs.States.{refusedBy, stateFlat, ownerFlat}
+use Rattle.capi.specs.Sheet.{sheetFlat, outputFlat, viewFlat}
 use Rattle.capi.specs.Reading.{numberFlat, spanFlat, movedFlat, outpointFlat}
 use Rattle.capi.specs.Items.{stepFlat, runFlat, placeFlat, itemFlat}
 use Rattle.capi.specs.declared.CovenantAnswer.{CovenantAnswer}
 use Rattle.capi.specs.declared.WriteAnswer.{WriteAnswer}
 use Rattle.capi.specs.declared.states.StateAnswer.{StateAnswer}
+use Rattle.capi.specs.declared.states.OwnerAnswer.{OwnerAnswer}
 use Rattle.capi.specs.declared.sheet.SheetAnswer.{SheetAnswer}
+use Rattle.capi.specs.declared.sheet.PlaceAnswer.{PlaceAnswer}
 use Rattle.capi.specs.declared.sheet.ViewAnswer.{ViewAnswer}
 use Rattle.capi.specs.declared.wire.NumberAnswer.{NumberAnswer}
 use Rattle.capi.specs.declared.wire.SpanAnswer.{SpanAnswer}
@@ -63,12 +71,20 @@ turgamysk-blake2b-256-value-nonce-one value nonce = one
 pub turgamysk-covenant-read-one : (s : List ℕ) (at limit : ℕ) {r r′ : CovenantAnswer} → r ≡ covenantFlat (skimmed (covenantAt limit s at)) → r′ ≡ covenantFlat (skimmed (covenantAt limit s at)) → r ≡ r′
 turgamysk-covenant-read-one s at limit = one
 
--- what `turgamysk_covenant_decode` says: the answer, and both lent arrays
-abbrev Says : List ℕ → CovenantAnswer → List ℕ → List ℕ → Type 0
-Says s r starts lens = (r ≡ covenantFlat (skimmed (wholeCovenant s))) × (starts ≡ directoryOf (wholeCovenant s) .starts) × (lens ≡ directoryOf (wholeCovenant s) .lens)
+-- what is said of a covenant that is read with its directory: the answer, and both lent arrays
+abbrev Says : Outcome Reading → CovenantAnswer → List ℕ → List ℕ → Type 0
+Says o r starts lens = (r ≡ covenantFlat (skimmed o)) × (starts ≡ directoryOf o .starts) × (lens ≡ directoryOf o .lens)
 
-pub turgamysk-covenant-decode-one : (s : List ℕ) {r r′ : CovenantAnswer} {a a′ b b′ : List ℕ} → Says s r a b → Says s r′ a′ b′ → (r ≡ r′) × (a ≡ a′) × (b ≡ b′)
-turgamysk-covenant-decode-one s e f = (one (e .0) (f .0), one (e .1) (f .1), one (e .2) (f .2))
+said-one : (o : Outcome Reading) {r r′ : CovenantAnswer} {a a′ b b′ : List ℕ} → Says o r a b → Says o r′ a′ b′ → (r ≡ r′) × (a ≡ a′) × (b ≡ b′)
+said-one o e f = (one (e .0) (f .0), one (e .1) (f .1), one (e .2) (f .2))
+
+pub turgamysk-covenant-decode-one : (s : List ℕ) {r r′ : CovenantAnswer} {a a′ b b′ : List ℕ}
+    → Says (wholeCovenant s) r a b → Says (wholeCovenant s) r′ a′ b′ → (r ≡ r′) × (a ≡ a′) × (b ≡ b′)
+turgamysk-covenant-decode-one s = said-one (wholeCovenant s)
+
+pub turgamysk-covenant-decode-from-one : (s : List ℕ) (at limit : ℕ) {r r′ : CovenantAnswer} {a a′ b b′ : List ℕ}
+    → Says (covenantAt limit s at) r a b → Says (covenantAt limit s at) r′ a′ b′ → (r ≡ r′) × (a ≡ a′) × (b ≡ b′)
+turgamysk-covenant-decode-from-one s at limit = said-one (covenantAt limit s at)
 
 pub turgamysk-covenant-encode-one : (kind : ℕ) (source starts lens : List ℕ) (count : ℕ) (d : List ℕ) {r r′ : WriteAnswer} {d₁ d₂ : List ℕ}
     → (r ≡ writeFlat (encodeAnswer kind source starts lens count d)) × (d₁ ≡ encodeContent kind source starts lens count d)
@@ -105,6 +121,15 @@ module _ (p : NameState) where
   pub turgamysk-name-state-class-one : {r r′ : ℕ} → r ≡ classNumber (classOf (stateOf p)) → r′ ≡ classNumber (classOf (stateOf p)) → r ≡ r′
   turgamysk-name-state-class-one = one
 
+  pub turgamysk-name-state-owner-outpoint-one : {r r′ : OwnerAnswer} → r ≡ ownerFlat (ownerOf (stateOf p)) → r′ ≡ ownerFlat (ownerOf (stateOf p)) → r ≡ r′
+  turgamysk-name-state-owner-outpoint-one = one
+
+  pub turgamysk-name-state-bitmap-one : {r r′ : ℕ} → r ≡ bitmap (stateOf p) → r′ ≡ bitmap (stateOf p) → r ≡ r′
+  turgamysk-name-state-bitmap-one = one
+
+  pub turgamysk-name-state-validate-key-binding-one : {r r′ : ℕ} → r ≡ binding (stateOf p) → r′ ≡ binding (stateOf p) → r ≡ r′
+  turgamysk-name-state-validate-key-binding-one = one
+
   pub turgamysk-name-state-is-null-one : {r r′ : Bool} → r ≡ null (stateOf p) → r′ ≡ null (stateOf p) → r ≡ r′
   turgamysk-name-state-is-null-one = one
 
@@ -118,6 +143,12 @@ turgamysk-judge-transaction-one s = one
 
 pub turgamysk-judge-coins-one : (s : List ℕ) {r r′ : SheetAnswer} → r ≡ sheetFlat (coinCounts s) → r′ ≡ sheetFlat (coinCounts s) → r ≡ r′
 turgamysk-judge-coins-one s = one
+
+pub turgamysk-sheet-input-at-one : (s : List ℕ) (at : ℕ) {r r′ : OutpointAnswer} → r ≡ outpointFlat (shownOutpoint (inputAt s at)) → r′ ≡ outpointFlat (shownOutpoint (inputAt s at)) → r ≡ r′
+turgamysk-sheet-input-at-one s at = one
+
+pub turgamysk-sheet-place-at-one : (s : List ℕ) (at side : ℕ) {r r′ : PlaceAnswer} → r ≡ outputFlat (placeAt side s at) → r′ ≡ outputFlat (placeAt side s at) → r ≡ r′
+turgamysk-sheet-place-at-one s at side = one
 
 pub turgamysk-view-item-one : (tx coins : List ℕ) (side index item : ℕ) {r r′ : ViewAnswer} → r ≡ viewFlat (viewOf tx coins side index item) → r′ ≡ viewFlat (viewOf tx coins side index item) → r ≡ r′
 turgamysk-view-item-one tx coins side index item = one
@@ -197,6 +228,21 @@ module _ (at : ℕ) (d : List ℕ) {r r′ : WriteAnswer} {d₁ d₂ : List ℕ}
 pub turgamysk-compact-size-len-one : (v : ℕ) {r r′ : ℕ} → r ≡ compactSize v → r′ ≡ compactSize v → r ≡ r′
 turgamysk-compact-size-len-one v = one
 
+-- ---- amounts
+
+module _ (a b : ℕ) where
+  abbrev Sum : AmountAnswer
+  Sum = amountFlat (sumOf (record { 0 = a }) (record { 0 = b }))
+
+  pub turgamysk-checked-add-one : {r r′ : AmountAnswer} → r ≡ Sum → r′ ≡ Sum → r ≡ r′
+  turgamysk-checked-add-one = one
+
+  abbrev Difference : AmountAnswer
+  Difference = amountFlat (differenceOf (record { 0 = a }) (record { 0 = b }))
+
+  pub turgamysk-checked-sub-one : {r r′ : AmountAnswer} → r ≡ Difference → r′ ≡ Difference → r ≡ r′
+  turgamysk-checked-sub-one = one
+
 -- ---- outpoints
 
 module _ (a : Outpoint) where
@@ -257,3 +303,12 @@ module _ (kind : ℕ) where
 
 pub turgamysk-verify-covenant-links-one : (tx coins : List ℕ) {r r′ : LinksAnswer} → r ≡ linksFlat (verifyOf tx coins) → r′ ≡ linksFlat (verifyOf tx coins) → r ≡ r′
 turgamysk-verify-covenant-links-one tx coins = one
+
+-- ---- report lines
+
+module _ (out : List ℕ) {r r′ : WriteAnswer} {d₁ d₂ : List ℕ} where
+  pub turgamysk-link-line-one : (tx coins : List ℕ) → Puts 0 (linkLine tx coins) out r d₁ → Puts 0 (linkLine tx coins) out r′ d₂ → (r ≡ r′) × (d₁ ≡ d₂)
+  turgamysk-link-line-one tx coins = one-each
+
+  pub turgamysk-name-line-one : (file : List ℕ) → Puts 0 (nameLine file) out r d₁ → Puts 0 (nameLine file) out r′ d₂ → (r ≡ r′) × (d₁ ≡ d₂)
+  turgamysk-name-line-one file = one-each

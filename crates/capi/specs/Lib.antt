@@ -1,4 +1,5 @@
 pub mod Flat
+pub mod Amounts
 pub mod States
 pub mod Sheet
 pub mod Reading

@@ -3,7 +3,9 @@ use Prim.Native.Nat.{ℕ}
 use lib.ListN.{getD}
 use Rattle.refusal.specs.Outcome.{Outcome, ok, err}
 use Rattle.name_state.specs.declared.NameState.{NameState}
+use Rattle.name_state.specs.declared.Owner.{Owner}
 use Rattle.capi.specs.declared.states.StateAnswer.{StateAnswer}
+use Rattle.capi.specs.declared.states.OwnerAnswer.{OwnerAnswer}
 
 -- the refusal's number, 0 where there is none
 abbrev pub refusedBy : {A : Type 0} → Outcome A → ℕ
@@ -17,3 +19,6 @@ withState (err k vs p) n = record { number = k; first = getD vs 0 0; second = ge
 
 abbrev pub stateFlat : Outcome Unit × NameState → StateAnswer
 stateFlat d = withState (d .0) (d .1)
+
+abbrev pub ownerFlat : Owner → OwnerAnswer
+ownerFlat o = record { held = o .held; outpoint = o .outpoint }

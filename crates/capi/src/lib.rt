@@ -1,5 +1,7 @@
 // The C boundary: each entry of the libraries under a C name, with its whole contract. include/turgamysk.h declares them.
+pub mod amounts;
 pub mod items;
+pub mod lines;
 pub mod linkage;
 pub mod sheet;
 pub mod states;
@@ -156,6 +158,28 @@ pub extern "C" fn turgamysk_covenant_decode(
     ensures { λ _. ⌜ now (lens .exit) ≡ directoryOf (wholeCovenant (now (bytes .entry))) .lens ⌝ }
 {
     covenant_answer(Covenant::decode_into(bytes, starts, lens))
+}
+
+#[no_mangle]
+pub extern "C" fn turgamysk_covenant_decode_from(
+    bytes: &[u8],
+    position: usize,
+    limit: usize,
+    starts: &mut [usize; 1000],
+    lens: &mut [usize; 1000],
+) -> CovenantAnswer
+    ensures { λ r. ⌜ r ≡ covenantFlat (skimmed (covenantAt limit (now (bytes .entry)) position)) ⌝ }
+    ensures { λ _. ⌜ now (starts .exit) ≡ directoryOf (covenantAt limit (now (bytes .entry)) position) .starts ⌝ }
+    ensures { λ _. ⌜ now (lens .exit) ≡ directoryOf (covenantAt limit (now (bytes .entry)) position) .lens ⌝ }
+{
+    let decoded = Covenant::decode_from_with_limit(Cursor { position }, bytes, limit);
+    let covenant = decoded.covenant;
+    let firsts = covenant.starts;
+    let sizes = covenant.lens;
+    *starts = firsts;
+    *lens = sizes;
+    let read = decoded.read;
+    covenant_answer(read)
 }
 
 #[no_mangle]

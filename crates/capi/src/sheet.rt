@@ -1,16 +1,24 @@
-// Sheets judged whole, and the item viewer.
+// Sheets judged whole, their inputs and outputs read one by one, and the item viewer.
+use crate::wire::OutpointAnswer;
+use crate::wire::outpoint_answer;
+use encoding::read::Cursor;
 use refusal::carried_by;
 use refusal::number;
+use sheets::ReadPlace;
 use sheets::SheetRead;
+use sheets::input_at;
 use sheets::judge_coins;
 use sheets::judge_transaction;
+use sheets::place_at;
 use sheets::viewer::View;
 use sheets::viewer::find_view;
 ghost use mathlib.Core.Path.{_≡_};
-ghost use Rattle.sheets.specs.Sheet.{transactionCounts, coinCounts};
+ghost use Rattle.primitives.specs.Outpoints.{shownOutpoint};
+ghost use Rattle.sheets.specs.Sheet.{inputAt, placeAt, transactionCounts, coinCounts};
 ghost use Rattle.sheets.specs.Viewer.{viewOf};
-ghost use Rattle.sheets.specs.Paper.{sheetPaper, viewPaper};
-ghost use Rattle.capi.specs.Sheet.{sheetFlat, viewFlat};
+ghost use Rattle.sheets.specs.Paper.{placePaper, sheetPaper, viewPaper};
+ghost use Rattle.capi.specs.Reading.{outpointFlat};
+ghost use Rattle.capi.specs.Sheet.{sheetFlat, outputFlat, viewFlat};
 
 // How many inputs (or coins) and outputs a sheet has, or the refusal and which sheet that is.
 #[repr(C)]
@@ -22,6 +30,22 @@ pub struct SheetAnswer {
     pub side: u8,
     pub inputs: usize,
     pub outputs: usize,
+}
+
+// An output that was read: its value, its address's version and where the address's bytes stand, where its covenant begins, and its kind. Or the refusal.
+#[repr(C)]
+pub struct PlaceAnswer {
+    pub number: u8,
+    pub first: usize,
+    pub second: usize,
+    pub third: usize,
+    pub position: usize,
+    pub value: u64,
+    pub version: u8,
+    pub start: usize,
+    pub size: usize,
+    pub covenant: usize,
+    pub kind: u8,
 }
 
 // Where an item stands in the sheet of its side.
@@ -55,6 +79,43 @@ fn sheet_answer(read: SheetRead) -> SheetAnswer
                 side,
                 inputs: 0,
                 outputs: 0,
+            }
+        }
+    }
+}
+
+fn output_answer(read: ReadPlace) -> PlaceAnswer
+    ensures { λ r. ⌜ r ≡ outputFlat (placePaper read) ⌝ }
+{
+    match read {
+        ReadPlace::Output(place, next) => PlaceAnswer {
+            number: 0,
+            first: 0,
+            second: 0,
+            third: 0,
+            position: next.position,
+            value: place.value.0,
+            version: place.version,
+            start: place.start,
+            size: place.size,
+            covenant: place.covenant,
+            kind: place.kind,
+        },
+        ReadPlace::Refused(stop) => {
+            let refusal = stop.refusal;
+            let carried = carried_by(refusal);
+            PlaceAnswer {
+                number: number(refusal),
+                first: carried.first,
+                second: carried.second,
+                third: carried.third,
+                position: stop.position,
+                value: 0,
+                version: 0,
+                start: 0,
+                size: 0,
+                covenant: 0,
+                kind: 0,
             }
         }
     }
@@ -94,6 +155,20 @@ pub extern "C" fn turgamysk_judge_coins(sheet: &[u8]) -> SheetAnswer
     ensures { λ r. ⌜ r ≡ sheetFlat (coinCounts (now (sheet .entry))) ⌝ }
 {
     sheet_answer(judge_coins(sheet))
+}
+
+#[no_mangle]
+pub extern "C" fn turgamysk_sheet_input_at(sheet: &[u8], position: usize) -> OutpointAnswer
+    ensures { λ r. ⌜ r ≡ outpointFlat (shownOutpoint (inputAt (now (sheet .entry)) position)) ⌝ }
+{
+    outpoint_answer(input_at(Cursor { position }, sheet))
+}
+
+#[no_mangle]
+pub extern "C" fn turgamysk_sheet_place_at(sheet: &[u8], position: usize, side: u8) -> PlaceAnswer
+    ensures { λ r. ⌜ r ≡ outputFlat (placeAt side (now (sheet .entry)) position) ⌝ }
+{
+    output_answer(place_at(Cursor { position }, sheet, side))
 }
 
 #[no_mangle]

@@ -2,6 +2,7 @@
 use crate::WriteAnswer;
 use crate::write_answer;
 use encoding::read::Moved;
+use name_state::Binding;
 use name_state::Class;
 use name_state::NameState;
 use name_states::decode::Decoded;
@@ -13,6 +14,7 @@ use names::hash_name;
 use names::validate_name;
 use primitives::Dollarydoos;
 use primitives::NameHash;
+use primitives::Outpoint;
 use refusal::carried_by;
 use refusal::number;
 ghost use mathlib.Core.Path.{_≡_};
@@ -21,13 +23,13 @@ ghost use Rattle.words.specs.Buffers.{pick};
 ghost use Rattle.names.specs.Name.{validName, nameHash};
 ghost use Rattle.names.specs.Paper.{shownHash};
 ghost use Rattle.names.specs.Blind.{blindOf};
-ghost use Rattle.name_state.specs.State.{null, sameState};
-ghost use Rattle.name_state.specs.Paper.{stateOf, stored, nullState, classOf, classNumber};
+ghost use Rattle.name_state.specs.State.{null, bitmap, binding, sameState};
+ghost use Rattle.name_state.specs.Paper.{stateOf, stored, nullState, ownerOf, classOf, classNumber};
 ghost use Rattle.name_states.specs.Written.{checkedSize, encodeAnswer, encodeContent};
 ghost use Rattle.name_states.specs.Read.{readState};
 ghost use Rattle.name_states.specs.Paper.{decodedPaper, shownState};
 ghost use Rattle.capi.specs.Flat.{writeFlat};
-ghost use Rattle.capi.specs.States.{refusedBy, stateFlat};
+ghost use Rattle.capi.specs.States.{refusedBy, stateFlat, ownerFlat};
 
 // ---- names
 
@@ -75,6 +77,13 @@ pub struct StateAnswer {
     pub third: usize,
     pub position: usize,
     pub state: NameState,
+}
+
+// The current owner (`held`), or that there is none, and then zeros for it.
+#[repr(C)]
+pub struct OwnerAnswer {
+    pub held: bool,
+    pub outpoint: Outpoint,
 }
 
 fn state_answer(decoded: Decoded) -> StateAnswer
@@ -137,6 +146,36 @@ pub extern "C" fn turgamysk_name_state_class(state: NameState) -> u8
         Class::Null => 0,
         Class::Held => 1,
         Class::Free => 2,
+    }
+}
+
+#[no_mangle]
+pub extern "C" fn turgamysk_name_state_owner_outpoint(state: NameState) -> OwnerAnswer
+    ensures { λ r. ⌜ r ≡ ownerFlat (ownerOf (stateOf state)) ⌝ }
+{
+    let owner = state.owner_outpoint();
+    let outpoint = owner.outpoint;
+    OwnerAnswer {
+        held: owner.held,
+        outpoint,
+    }
+}
+
+#[no_mangle]
+pub extern "C" fn turgamysk_name_state_bitmap(state: NameState) -> u16
+    ensures { λ r. ⌜ r ≡ bitmap (stateOf state) ⌝ }
+{
+    state.bitmap()
+}
+
+#[no_mangle]
+pub extern "C" fn turgamysk_name_state_validate_key_binding(state: NameState) -> u8
+    ensures { λ r. ⌜ r ≡ binding (stateOf state) ⌝ }
+{
+    match state.validate_key_binding() {
+        Binding::Bound => 0,
+        Binding::NoName => 6,
+        Binding::OtherKey => 9,
     }
 }
 

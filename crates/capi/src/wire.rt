@@ -160,7 +160,7 @@ fn moved_answer(moved: Moved) -> MovedAnswer
     }
 }
 
-fn outpoint_answer(read: ReadOutpoint) -> OutpointAnswer
+pub(crate) fn outpoint_answer(read: ReadOutpoint) -> OutpointAnswer
     ensures { λ r. ⌜ r ≡ outpointFlat (outpointPaper read) ⌝ }
 {
     let outpoint = read.outpoint;

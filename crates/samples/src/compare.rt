@@ -87,7 +87,7 @@ fn compare_made(f: Function, s: &[u8], n: usize, next: usize, room: &mut [u8]) -
 }
 
 // The vector at a place; `room` is where a message is made.
-pub fn judge(f: Function, s: &[u8], at: usize, room: &mut [u8]) -> Judged
+pub(crate) fn judge(f: Function, s: &[u8], at: usize, room: &mut [u8]) -> Judged
     requires { ⌜ (at ≤ length (now s)) × (66000 ≤ length (now room)) ⌝ }
     ensures { λ r. ⌜ (r ≡ judgedOf f (now (s .entry)) (vectorAt f (now (s .entry)) at)) × (r .differs ≤ 1) × (r .next ≤ length (now (s .entry))) ⌝ }
 {

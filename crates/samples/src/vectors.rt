@@ -26,7 +26,7 @@ pub enum Vector {
     Broken,
 }
 
-pub fn head(f: Function) -> u64
+pub(crate) fn head(f: Function) -> u64
     ensures { λ r. ⌜ r ≡ headOf f ⌝ }
 {
     match f {
@@ -75,7 +75,7 @@ fn message_of(s: &[u8], at: usize, n: usize) -> Vector
 }
 
 // The vector at a place.
-pub fn find(f: Function, s: &[u8], at: usize) -> Vector
+pub(crate) fn find(f: Function, s: &[u8], at: usize) -> Vector
     requires { ⌜ at ≤ length (now s) ⌝ }
     ensures { λ r. ⌜ (r ≡ vectorAt f (now (s .entry)) at) × Inside (length (now (s .entry))) r × Takes f r ⌝ }
 {
@@ -91,7 +91,7 @@ pub fn find(f: Function, s: &[u8], at: usize) -> Vector
 }
 
 // The message made into the first n bytes of `out`.
-pub fn make(out: &mut [u8], n: usize)
+pub(crate) fn make(out: &mut [u8], n: usize)
     requires { ⌜ (n ≤ 1000000) × (n ≤ length (now out)) ⌝ }
     ensures { λ _. ⌜ now (out .exit) ≡ over 0 (made n) (now (out .entry)) ⌝ }
 {

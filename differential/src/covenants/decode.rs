@@ -1,79 +1,25 @@
 //! `decode` with its directory, and single items of what it accepts.
 
-use super::build::{self, compact_width};
+use super::build;
+use super::lent::Lent;
 use crate::kind::{Kind, short_inputs};
 use crate::oracle::{self, Refused, guarded};
 use crate::random::Random;
 use crate::tally::{Case, Tally};
 use hns_covenants::Covenant;
-use turgamysk::{CovenantKind, Directory, entries};
-
-const PLACES: usize = 1000;
-/// What stands in a directory before a call.
-const POISON: usize = 0xa5a5_a5a5_a5a5_a5a5;
-/// On the many short inputs only so many places are poisoned each time, others from case to case.
-const WINDOW: usize = 40;
+use turgamysk::{CovenantKind, entries};
 
 #[derive(Default)]
 pub struct Decode {
     bytes: Vec<u8>,
-    directory: Box<Directory>,
-    expected: Box<Directory>,
-    window: usize,
-}
-
-/// Where the original's items stand in the bytes that they were read from, by the forms that it accepts.
-fn lay_out(covenant: &Covenant, directory: &mut Directory) {
-    let mut start = 1 + compact_width(covenant.items.len() as u64);
-    for (index, item) in covenant.items.iter().enumerate() {
-        start += compact_width(item.len() as u64);
-        directory.starts[index] = start;
-        directory.lengths[index] = item.len();
-        start += item.len();
-    }
-}
-
-/// Whether the first places are as expected and the others zeros.
-fn is_directory(directory: &Directory, expected: &Directory, count: usize) -> bool {
-    let zeros = [0; PLACES];
-    directory.starts[..count] == expected.starts[..count]
-        && directory.lengths[..count] == expected.lengths[..count]
-        && directory.starts[count..] == zeros[count..]
-        && directory.lengths[count..] == zeros[count..]
-}
-
-/// The original's items stand where the directory says.
-fn holds(bytes: &[u8], directory: &Directory, covenant: &Covenant) -> bool {
-    covenant.items.iter().enumerate().all(|(index, item)| {
-        let start = directory.starts[index];
-        bytes.get(start..start + directory.lengths[index]) == Some(item)
-    })
+    lent: Lent,
 }
 
 impl Decode {
-    fn poison_all(&mut self) {
-        self.directory.starts.fill(POISON);
-        self.directory.lengths.fill(POISON);
-    }
-
-    fn poison_some(&mut self) {
-        self.window = (self.window + WINDOW) % PLACES;
-        let window = self.window..self.window + WINDOW;
-        self.directory.starts[window.clone()].fill(POISON);
-        self.directory.lengths[window].fill(POISON);
-    }
-
     fn compare(&mut self, tally: &mut Tally, bytes: &[u8]) -> Option<Covenant> {
-        let ours = entries::covenant_decode(bytes, &mut self.directory);
+        let ours = entries::covenant_decode(bytes, &mut self.lent.directory);
         let (theirs, covenant) = oracle::covenant_decode(bytes);
-        let filled = match &covenant {
-            None => is_directory(&self.directory, &self.directory, 0),
-            Some(covenant) => {
-                lay_out(covenant, &mut self.expected);
-                is_directory(&self.directory, &self.expected, covenant.items.len())
-                    && holds(bytes, &self.directory, covenant)
-            }
-        };
+        let filled = self.lent.is_filled(bytes, 0, covenant.as_ref());
         tally.compare(
             theirs.verdict.number,
             &(ours, filled),
@@ -91,7 +37,7 @@ impl Decode {
         let ours = turgamysk::Covenant {
             kind: CovenantKind(covenant.kind.as_u8()),
             source: &self.bytes,
-            directory: &self.directory,
+            directory: &self.lent.directory,
             count: covenant.items.len(),
         };
         let count = covenant.items.len();
@@ -149,15 +95,15 @@ impl Kind for Decode {
 
     fn exhaustive(&mut self, tally: &mut Tally) {
         short_inputs(3, |bytes| {
-            self.poison_some();
+            self.lent.poison_some();
             self.compare(tally, bytes);
         });
         build::compact_forms(|bytes| {
-            self.poison_all();
+            self.lent.poison_all();
             self.compare(tally, bytes);
         });
         build::around_largest(|bytes| {
-            self.poison_all();
+            self.lent.poison_all();
             self.compare(tally, bytes);
         });
     }
@@ -168,7 +114,7 @@ impl Kind for Decode {
         if random.once_in(2) {
             build::damage(&mut self.bytes, 0, random);
         }
-        self.poison_all();
+        self.lent.poison_all();
         let bytes = std::mem::take(&mut self.bytes);
         let covenant = self.compare(tally, &bytes);
         self.bytes = bytes;

@@ -1,4 +1,4 @@
-//! `decode_from_with_limit` at a position of larger bytes, under an allowance.
+//! `decode_from_with_limit` at a position of larger bytes, under an allowance, without its directory.
 
 use super::build;
 use crate::kind::{Kind, short_inputs};
@@ -8,8 +8,8 @@ use crate::tally::{Case, Tally};
 use turgamysk::entries;
 
 /// The allowances under which every short input is read.
-const LIMITS: [usize; 7] = [0, 1, 2, 3, 4, 1_000_009, usize::MAX];
-const LARGEST: usize = 1_000_009;
+pub(super) const LIMITS: [usize; 7] = [0, 1, 2, 3, 4, 1_000_009, usize::MAX];
+pub(super) const LARGEST: usize = 1_000_009;
 
 #[derive(Default)]
 pub struct Read {
@@ -69,42 +69,45 @@ impl Kind for Read {
     }
 
     fn random(&mut self, random: &mut Random, tally: &mut Tally) {
-        self.bytes.clear();
-        let start = self.put_before(random);
-        build::put_covenant(&mut self.bytes, random);
-        let size = self.bytes.len() - start;
-        if random.once_in(2) {
-            build::damage(&mut self.bytes, start, random);
-        }
-        if random.once_in(3) {
-            let after = random.between(1, 9);
-            self.bytes.resize(self.bytes.len() + after, random.byte());
-        }
-        let position = self.position(start, random);
-        compare(tally, &self.bytes, position, limit(size, random));
+        let (position, limit) = draw(&mut self.bytes, random);
+        compare(tally, &self.bytes, position, limit);
     }
 }
 
-impl Read {
-    /// Bytes before the covenant, and how many.
-    fn put_before(&mut self, random: &mut Random) -> usize {
-        if random.once_in(2) {
-            return 0;
-        }
-        let length = random.between(1, 20);
-        self.bytes.resize(length, 0);
-        random.fill(&mut self.bytes);
-        length
+/// A covenant, half of the time damaged, inside larger bytes; and a position and an allowance for it.
+pub(super) fn draw(bytes: &mut Vec<u8>, random: &mut Random) -> (usize, usize) {
+    bytes.clear();
+    put_before(bytes, random);
+    let start = bytes.len();
+    build::put_covenant(bytes, random);
+    let size = bytes.len() - start;
+    if random.once_in(2) {
+        build::damage(bytes, start, random);
     }
+    if random.once_in(3) {
+        let after = random.between(1, 9);
+        bytes.resize(bytes.len() + after, random.byte());
+    }
+    (place(bytes, start, random), limit(size, random))
+}
 
-    /// Mostly where the covenant starts; else anywhere, and rarely behind the end.
-    fn position(&self, start: usize, random: &mut Random) -> usize {
-        match random.below(64) {
-            0 => self.bytes.len() + random.between(1, 3),
-            1 => usize::MAX - random.below(3),
-            2..=5 => random.below(self.bytes.len() + 1),
-            _ => start,
-        }
+/// Bytes before the covenant, half of the time.
+fn put_before(bytes: &mut Vec<u8>, random: &mut Random) {
+    if random.once_in(2) {
+        return;
+    }
+    let length = random.between(1, 20);
+    bytes.resize(length, 0);
+    random.fill(bytes);
+}
+
+/// Mostly where the covenant starts; else anywhere, and rarely behind the end.
+fn place(bytes: &[u8], start: usize, random: &mut Random) -> usize {
+    match random.below(64) {
+        0 => bytes.len() + random.between(1, 3),
+        1 => usize::MAX - random.below(3),
+        2..=5 => random.below(bytes.len() + 1),
+        _ => start,
     }
 }
 

@@ -1,4 +1,4 @@
-//! Writing a state, and what is told of one: its size, its class, whether it is null and whether it is another.
+//! Writing a state, and what is told of one: its size, its class, its owner, its bitmap, what binds it, whether it is null and whether it is another.
 
 use super::build::{Record, state};
 use super::original::{self, Whole};
@@ -7,8 +7,9 @@ use crate::oracle::{Refused, covenant_error, guarded, refused};
 use crate::random::Random;
 use crate::room::{Room, compare_write, size_answer};
 use crate::tally::{Case, Tally};
-use turgamysk::entries;
-use turgamysk::{Height, NameState};
+use crate::wire::our_outpoint;
+use turgamysk::entries::{self, OwnerAnswer};
+use turgamysk::{Height, NameState, Outpoint};
 
 /// The original is given names and resources up to this length; above it document 01 gives the same answer.
 const LONGEST_BUILT: usize = 1 << 17;
@@ -75,6 +76,46 @@ fn compare_class(tally: &mut Tally, state: &NameState) {
     });
 }
 
+fn compare_owner(tally: &mut Tally, state: &NameState) {
+    let theirs = match original::theirs(state).owner_outpoint() {
+        Some(outpoint) => OwnerAnswer {
+            held: true,
+            outpoint: our_outpoint(&outpoint),
+        },
+        None => OwnerAnswer {
+            held: false,
+            outpoint: Outpoint::ZEROS,
+        },
+    };
+    let ours = entries::name_state_owner_outpoint(state);
+    tally.compare(0, &ours, &theirs, || {
+        case("turgamysk_name_state_owner_outpoint", state)
+    });
+}
+
+fn compare_binding(tally: &mut Tally, state: &NameState) {
+    let state_of_theirs = original::theirs(state);
+    let theirs = guarded(|| {
+        let bound = state_of_theirs.validate_key_binding();
+        bound.map_err(|error| covenant_error(&error))
+    });
+    let theirs = theirs.map_or_else(|refused| refused.number, |()| 0);
+    let ours = entries::name_state_validate_key_binding(state);
+    tally.compare(theirs, &ours, &theirs, || {
+        case("turgamysk_name_state_validate_key_binding", state)
+    });
+}
+
+/// The original keeps its bitmap to itself: it is the one in the record that the original writes, behind name, resource and two heights.
+fn compare_bitmap(tally: &mut Tally, state: &NameState, record: &[u8]) {
+    let at = 1 + state.name_length + 2 + state.resource_length + 8;
+    let theirs = u16::from_le_bytes([record[at], record[at + 1]]);
+    let ours = entries::name_state_bitmap(state);
+    tally.compare(0, &ours, &theirs, || {
+        case("turgamysk_name_state_bitmap", state)
+    });
+}
+
 fn compare_same(tally: &mut Tally, state: &NameState, other: &NameState) {
     let theirs = original::theirs(state) == original::theirs(other);
     let ours = entries::name_state_same(state, other);
@@ -138,8 +179,13 @@ impl Encode {
             |dest| entries::name_state_encode(state, dest),
             || case("turgamysk_name_state_encode", state),
         );
+        if let Ok(record) = &expected {
+            compare_bitmap(tally, state, record);
+        }
         if is_built(state) {
             compare_class(tally, state);
+            compare_owner(tally, state);
+            compare_binding(tally, state);
             compare_same(tally, state, &altered(state, random));
         }
     }

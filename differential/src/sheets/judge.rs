@@ -179,7 +179,8 @@ fn full_sheet() -> Vec<u8> {
     sheet
 }
 
-fn changes(sheet: &[u8], mut each: impl FnMut(&[u8])) {
+/// Every beginning of a sheet, and every change of one byte of it.
+pub fn changes(sheet: &[u8], mut each: impl FnMut(&[u8])) {
     let mut changed = sheet.to_vec();
     for place in 0..sheet.len() {
         each(&sheet[..place]);

@@ -1,7 +1,7 @@
 //! Sheets by document 01's rules, over the original's decoder and covenants: what they hold, in the original's own types.
 
 use crate::covenants::build::compact_width;
-use crate::oracle::{Refused, covenant_error, decode_error, guarded, refused};
+use crate::oracle::{Refused, covenant_error, decode_error, decoder_at, guarded, refused};
 use hns_covenants::Covenant;
 use hns_encoding::Decoder;
 use hns_primitives::{Dollarydoos, Height, Outpoint, TransactionHash};
@@ -59,6 +59,12 @@ struct Reader<'a> {
 }
 
 impl<'a> Reader<'a> {
+    /// Inside a sheet.
+    fn at(sheet: &'a [u8], position: usize, side: u8) -> Result<Self, Refused> {
+        let decoder = decoder_at(sheet, position)?;
+        Ok(Self { decoder, side })
+    }
+
     /// "28 first", then the head: counts of inputs or coins, and of outputs.
     fn open(sheet: &'a [u8], side: u8) -> Result<(Self, usize, usize), Refused> {
         if sheet.len() > LONGEST {
@@ -200,4 +206,31 @@ fn coin(reader: &mut Reader) -> Result<(Coin, Vec<Spot>), Refused> {
         covenant: output.covenant,
     };
     Ok((coin, spots))
+}
+
+/// What one read gave, and where the decoder then stands.
+pub type At<T> = (Result<T, Refused>, usize);
+
+/// The input at a position.
+pub fn input_at(sheet: &[u8], position: usize) -> At<Outpoint> {
+    match Reader::at(sheet, position, 0) {
+        Ok(mut reader) => (reader.outpoint(), reader.decoder.position()),
+        Err(refused) => (Err(refused), position),
+    }
+}
+
+/// The output at a position. A wrong field is refused where it begins, the other refusals where the decoder stands.
+pub fn output_at(sheet: &[u8], position: usize, side: u8) -> At<Output> {
+    let mut reader = match Reader::at(sheet, position, side) {
+        Ok(reader) => reader,
+        Err(refused) => return (Err(refused), position),
+    };
+    let output = reader.output().map(|(output, _)| output);
+    let stand = match output {
+        Err(Refused {
+            number: 27, second, ..
+        }) => second,
+        _ => reader.decoder.position(),
+    };
+    (output, stand)
 }

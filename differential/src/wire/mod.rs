@@ -19,7 +19,8 @@ const SIZES: [usize; 10] = [
     1 << 63,
 ];
 
-fn our_outpoint(outpoint: &hns_primitives::Outpoint) -> Outpoint {
+/// An outpoint of the original.
+pub fn our_outpoint(outpoint: &hns_primitives::Outpoint) -> Outpoint {
     Outpoint {
         transaction_hash: turgamysk::TransactionHash(outpoint.transaction_hash.into_bytes()),
         index: outpoint.index,

@@ -33,6 +33,14 @@ mod c {
             starts: *mut usize,
             lens: *mut usize,
         ) -> CovenantAnswer;
+        pub fn turgamysk_covenant_decode_from(
+            bytes: *const u8,
+            length: usize,
+            position: usize,
+            limit: usize,
+            starts: *mut usize,
+            lens: *mut usize,
+        ) -> CovenantAnswer;
         pub fn turgamysk_covenant_encode(
             dest: *mut u8,
             dest_length: usize,
@@ -63,6 +71,27 @@ pub fn covenant_decode(bytes: &[u8], directory: &mut Directory) -> CovenantAnswe
     let starts = directory.starts.as_mut_ptr();
     let lengths = directory.lengths.as_mut_ptr();
     unsafe { c::turgamysk_covenant_decode(bytes.as_ptr(), bytes.len(), starts, lengths) }
+}
+
+/// The covenant at `position`, under an allowance of `limit` bytes, with its directory as [`covenant_decode`] fills it.
+pub fn covenant_decode_from(
+    bytes: &[u8],
+    position: usize,
+    limit: usize,
+    directory: &mut Directory,
+) -> CovenantAnswer {
+    let starts = directory.starts.as_mut_ptr();
+    let lengths = directory.lengths.as_mut_ptr();
+    unsafe {
+        c::turgamysk_covenant_decode_from(
+            bytes.as_ptr(),
+            bytes.len(),
+            position,
+            limit,
+            starts,
+            lengths,
+        )
+    }
 }
 
 /// A covenant of `kind` with the first `count` items of a directory over `source`, into the first bytes of `dest`: all of it, or nothing.

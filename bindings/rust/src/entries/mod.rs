@@ -1,22 +1,26 @@
 //! Each entry of `include/turgamysk.h` as a safe function, with the answer that crosses the boundary.
 //!
-//! Every answer of the header begins with the refusal's number and three numbers that it carries; here these four are one part, [`Verdict`], which
+//! Every answer that may be a refusal begins with the refusal's number and three numbers that it carries; here these four are one part, [`Verdict`], which
 //! has the same layout.
 
 // Each call in these files hands over pointers to as many bytes as the header asks for, out of references that do not overlap. A reference to no
 // bytes is not null.
 
+mod amounts;
 mod covenants;
 mod hashes;
 mod items;
+mod lines;
 mod links;
 mod sheets;
 mod states;
 mod wire;
 
+pub use amounts::*;
 pub use covenants::*;
 pub use hashes::*;
 pub use items::*;
+pub use lines::*;
 pub use links::*;
 pub use sheets::*;
 pub use states::*;

@@ -1,4 +1,4 @@
-use super::Verdict;
+use super::{OutpointAnswer, Verdict};
 
 /// How many inputs (or coins) and outputs a sheet has, or the refusal and which sheet it is about. Unused parts are zeros.
 #[repr(C)]
@@ -12,6 +12,28 @@ pub struct SheetAnswer {
     pub inputs: usize,
     /// Its outputs.
     pub outputs: usize,
+}
+
+/// An output that was read, or the refusal. Unused parts are zeros.
+#[repr(C)]
+#[derive(Clone, Copy, Debug, Default, Eq, PartialEq)]
+pub struct PlaceAnswer {
+    /// Whether it was read.
+    pub verdict: Verdict,
+    /// Where the reader then stands.
+    pub position: usize,
+    /// Its value.
+    pub value: u64,
+    /// The version of its address.
+    pub version: u8,
+    /// Where the hash of its address begins.
+    pub start: usize,
+    /// How many bytes that has.
+    pub size: usize,
+    /// Where its covenant begins.
+    pub covenant: usize,
+    /// Its covenant's kind.
+    pub kind: u8,
 }
 
 /// Where an item stands; zeros where there is none.
@@ -42,6 +64,17 @@ mod c {
     unsafe extern "C" {
         pub fn turgamysk_judge_transaction(sheet: *const u8, length: usize) -> SheetAnswer;
         pub fn turgamysk_judge_coins(sheet: *const u8, length: usize) -> SheetAnswer;
+        pub fn turgamysk_sheet_input_at(
+            sheet: *const u8,
+            length: usize,
+            position: usize,
+        ) -> OutpointAnswer;
+        pub fn turgamysk_sheet_place_at(
+            sheet: *const u8,
+            length: usize,
+            position: usize,
+            side: u8,
+        ) -> PlaceAnswer;
         pub fn turgamysk_view_item(
             tx: *const u8,
             tx_length: usize,
@@ -62,6 +95,16 @@ pub fn judge_transaction(sheet: &[u8]) -> SheetAnswer {
 /// A coin sheet, judged whole.
 pub fn judge_coins(sheet: &[u8]) -> SheetAnswer {
     unsafe { c::turgamysk_judge_coins(sheet.as_ptr(), sheet.len()) }
+}
+
+/// The input, or the outpoint of the coin, at `position`.
+pub fn sheet_input_at(sheet: &[u8], position: usize) -> OutpointAnswer {
+    unsafe { c::turgamysk_sheet_input_at(sheet.as_ptr(), sheet.len(), position) }
+}
+
+/// The output, or what follows the outpoint of the coin, at `position`; 27 carries `side`.
+pub fn sheet_place_at(sheet: &[u8], position: usize, side: u8) -> PlaceAnswer {
+    unsafe { c::turgamysk_sheet_place_at(sheet.as_ptr(), sheet.len(), position, side) }
 }
 
 /// Where an item of an output (side 0) or a coin (side 1) stands in the sheet of that side.

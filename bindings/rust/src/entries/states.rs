@@ -1,5 +1,6 @@
 use super::{Bytes32, Verdict, WriteAnswer};
 use crate::name_state::NameState;
+use crate::primitives::Outpoint;
 
 /// A state that was read, or the refusal and a state of zeros.
 #[repr(C)]
@@ -11,6 +12,16 @@ pub struct StateAnswer {
     pub position: usize,
     /// The state.
     pub state: NameState,
+}
+
+/// The owner of a state, or that there is none and an outpoint of zeros.
+#[repr(C)]
+#[derive(Clone, Copy, Debug, Eq, PartialEq)]
+pub struct OwnerAnswer {
+    /// Whether there is one.
+    pub held: bool,
+    /// Its outpoint.
+    pub outpoint: Outpoint,
 }
 
 mod c {
@@ -32,6 +43,9 @@ mod c {
         ) -> WriteAnswer;
         pub fn turgamysk_name_state_encoded_size(state: NameState) -> WriteAnswer;
         pub fn turgamysk_name_state_class(state: NameState) -> u8;
+        pub fn turgamysk_name_state_owner_outpoint(state: NameState) -> OwnerAnswer;
+        pub fn turgamysk_name_state_bitmap(state: NameState) -> u16;
+        pub fn turgamysk_name_state_validate_key_binding(state: NameState) -> u8;
         pub fn turgamysk_name_state_is_null(state: NameState) -> bool;
         pub fn turgamysk_name_state_null(key: *const u8) -> NameState;
         pub fn turgamysk_name_state_same(state: NameState, other: NameState) -> bool;
@@ -71,6 +85,21 @@ pub fn name_state_encoded_size(state: &NameState) -> WriteAnswer {
 /// 0 for a null state, 1 for one with an owner, 2 for the others.
 pub fn name_state_class(state: &NameState) -> u8 {
     unsafe { c::turgamysk_name_state_class(*state) }
+}
+
+/// The owner of a state, unless it is the null outpoint.
+pub fn name_state_owner_outpoint(state: &NameState) -> OwnerAnswer {
+    unsafe { c::turgamysk_name_state_owner_outpoint(*state) }
+}
+
+/// Which fields the record of a state shows, from bit 0 for the owner on.
+pub fn name_state_bitmap(state: &NameState) -> u16 {
+    unsafe { c::turgamysk_name_state_bitmap(*state) }
+}
+
+/// Whether the key of a state is the hash of its name, or the state is null: 0; or 6, or 9.
+pub fn name_state_validate_key_binding(state: &NameState) -> u8 {
+    unsafe { c::turgamysk_name_state_validate_key_binding(*state) }
 }
 
 /// Whether all but the key and the name is zero, empty, unset or the null outpoint.
