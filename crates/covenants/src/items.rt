@@ -13,7 +13,8 @@ use primitives::NameHash;
 use words::store::has_room;
 ghost use mathlib.Core.Path.{_≡_};
 ghost use mathlib.Core.Bool.{true, false};
-ghost use Prim.Native.Nat.{_≤_};
+ghost use Prim.Native.Nat.{_≤_, _<_};
+ghost use lib.ListN.{length, getD};
 ghost use Rattle.refusal.specs.Outcome.{then, manyAt};
 ghost use lib.Dec.{ltb};
 ghost use Rattle.words.specs.Buffers.{pick};
@@ -294,8 +295,8 @@ fn first_two(from: Cursor, s: &[u8], start: usize, count: usize) -> Two
     }
 }
 
-// Items 0 and 1 of the covenant that stands at c, by one scan.
-pub fn find_two(c: Cursor, s: &[u8]) -> Two
+// Items 0 and 1 of the covenant that stands at c, however long its count and its lengths are.
+fn any_two(c: Cursor, s: &[u8]) -> Two
     ensures { λ r. ⌜ (spotPaper (r .first) ≡ seekAt (now (s .entry)) (c .position) 0) × (spotPaper (r .second) ≡ seekAt (now (s .entry)) (c .position) 1) ⌝ }
 {
     match head(c, s, Covenant::MAX_ENCODED_SIZE) {
@@ -315,6 +316,59 @@ pub fn find_two(c: Cursor, s: &[u8]) -> Two
         ReadHead::Refused(_) => Two {
             first: Spot::Absent,
             second: Spot::Absent,
+        },
+    }
+}
+
+// A byte as a count or a length.
+fn size_at(s: &[u8], at: usize) -> usize
+    requires { ⌜ at < length (now s) ⌝ }
+    ensures { λ r. ⌜ r ≡ getD (now (s .entry)) at 0 ⌝ }
+{
+    s[at] as usize
+}
+
+// Items 0 and 1 of the covenant that stands at c, by one scan. Mostly its count and both lengths are one byte each.
+pub fn find_two(c: Cursor, s: &[u8]) -> Two
+    ensures { λ r. ⌜ (spotPaper (r .first) ≡ seekAt (now (s .entry)) (c .position) 0) × (spotPaper (r .second) ≡ seekAt (now (s .entry)) (c .position) 1) ⌝ }
+{
+    let at = c.position;
+    if s.len() < 3 {
+        return any_two(c, s);
+    }
+    if s.len() - 3 < at {
+        return any_two(c, s);
+    }
+    let count = size_at(s, at + 1);
+    if count < 2 {
+        return any_two(c, s);
+    }
+    if 252 < count {
+        return any_two(c, s);
+    }
+    let first = size_at(s, at + 2);
+    if 252 < first {
+        return any_two(c, s);
+    }
+    let next = at + 3 + first;
+    if s.len() <= next {
+        return any_two(c, s);
+    }
+    let second = size_at(s, next);
+    if 252 < second {
+        return any_two(c, s);
+    }
+    if s.len() - next <= second {
+        return any_two(c, s);
+    }
+    Two {
+        first: Spot::Part {
+            start: at + 3,
+            len: first,
+        },
+        second: Spot::Part {
+            start: next + 1,
+            len: second,
         },
     }
 }

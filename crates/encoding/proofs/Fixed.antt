@@ -11,6 +11,7 @@ use lib.Dec.{ltb, eqb}
 use borrow.Author.Tests.{lt-ltb, ltb-false}
 use Rattle.words.specs.Words.{le, Bytes}
 use Rattle.words.specs.Buffers.{pick, laid}
+use Rattle.words.proofs.Cases.{by-order}
 use Rattle.words.proofs.Le.{le-under}
 use Rattle.words.proofs.Over.{laid-all}
 use Rattle.refusal.specs.Outcome.{Outcome, ok, err, then}
@@ -138,3 +139,9 @@ module _ (s : List ℕ) (at : ℕ) (big : length s < 2 ^ 64) (h : at < length s)
   pub compact-byte : getD s at 0 < 253 → compactAt s at ≡ ok (getD s at 0) (at + 1)
   unfolding compactAt
   compact-byte k = rw (byte-read, lt-ltb _ _ k)
+
+-- where no byte is left, a compact size is refused as a byte is
+pub compact-none : (s : List ℕ) (at : ℕ) → length s + 1 < 2 ^ 64 → length s ≤ at → fixedAt 1 s at ≡ compactAt s at
+unfolding compactAt fixedAt bytesAt
+compact-none s at big h =
+    by-order (length s) at (λ k. rw (slice.beyond 1 s at k)) (λ k. rw (slice.cut 1 s at {m = 1} k (omega arith) (omega arith) (omega arith)))

@@ -1,46 +1,157 @@
 use borrow.Author.Needs.{needs}
 use native.Mathlib.Omega.{arith}
-use mathlib.Core.Path.{_∙_}
-use Rattle.refusal.proofs.Outcomes.{told}
-use Rattle.covenants.specs.Paper.{headPaper}
-use Rattle.covenants.proofs.Moves.{head-read}
-use Rattle.covenants.proofs.Places.{seek-refused, seek-none, seek-first, seek-second}
+use mathlib.Core.Path.{refl, sym}
+use Rattle.covenants.proofs.OneByte.{short-two}
 use Rattle.covenants.proofs.items.find_two.Statement.{statement}
 use Rattle.covenants.proofs.items.find_two.Tie as tie
 use Rattle.covenants.proofs.items.find_two.Reads as reads
 use Rattle.covenants.proofs.items.find_two.Lts as lts
-use Rattle.covenants.proofs.head.Reads as head-reads
-use Rattle.covenants.proofs.items.first_two.Reads as first-two-reads
+use Rattle.covenants.proofs.items.any_two.Reads as any-two-reads
+use Rattle.covenants.proofs.items.size_at.Reads as size-at-reads
 
-head-requires : tie.Need-head-requires
-head-requires c κs = search needs
+-- src/items.rt:337:9
+any-two-requires : tie.Need-any-two-requires
+any-two-requires c κs = search needs
 
-enum-known-count : tie.Need-enum-known-count
-enum-known-count c = search needs
-
+-- src/items.rt:337:9
 returns : tie.Need-returns
-returns c = let e = (told headPaper (c .before .before .before .before .head .ensures) (c .before .before .count .given .1)) in (seek-none _ _ e 0 (c .if1 .taken), seek-none _ _ e 1 (c .if1 .taken))
+returns c = search needs
 
-first-two-requires : tie.Need-first-two-requires
-first-two-requires c κs = let h = head-read 1000009 (c .before .before .before .before .before .before .args .s .now) (c .before .before .before .before .before .before .args .c .position) (omega arith) (told headPaper (c .before .before .before .before .head .ensures) (c .before .before .count .given .1)) in omega (arith, h .later)
+-- src/items.rt:339:8
+sub-if2 : tie.Need-sub-if2
+sub-if2 c = search needs
 
-enum-told : tie.Need-enum-told
-enum-told c = search needs
+-- src/items.rt:340:9
+any-two-requires-2 : tie.Need-any-two-requires-2
+any-two-requires-2 c κs = search needs
 
+-- src/items.rt:340:9
 returns-2 : tie.Need-returns-2
-returns-2 c = let e = (told headPaper (c .before .before .before .before .before .head .ensures) (c .before .before .before .count .given .1)) in (c .first-two .ensures .0 ∙ seek-first _ _ e (c .before .if1 .left), c .first-two .ensures .1 ∙ seek-second _ _ e)
+returns-2 c = search needs
 
+-- src/items.rt:342:28
+add-size-at : tie.Need-add-size-at
+add-size-at c = search needs
+
+-- src/items.rt:342:9
+size-at-requires : tie.Need-size-at-requires
+size-at-requires c κs = search needs
+
+-- src/items.rt:344:9
+any-two-requires-3 : tie.Need-any-two-requires-3
+any-two-requires-3 c κs = search needs
+
+-- src/items.rt:344:9
 returns-3 : tie.Need-returns-3
-returns-3 c = let e = (told headPaper (c .before .before .head .ensures) (c .enum-told .given .1)) in (seek-refused _ _ 0 e, seek-refused _ _ 1 e)
+returns-3 c = search needs
+
+-- src/items.rt:347:9
+any-two-requires-4 : tie.Need-any-two-requires-4
+any-two-requires-4 c κs = search needs
+
+-- src/items.rt:347:9
+returns-4 : tie.Need-returns-4
+returns-4 c = search needs
+
+-- src/items.rt:349:28
+add-size-at-2 : tie.Need-add-size-at-2
+add-size-at-2 c = search needs
+
+-- src/items.rt:349:9
+size-at-requires-2 : tie.Need-size-at-requires-2
+size-at-requires-2 c κs = search needs
+
+-- src/items.rt:351:9
+any-two-requires-5 : tie.Need-any-two-requires-5
+any-two-requires-5 c κs = search needs
+
+-- src/items.rt:351:9
+returns-5 : tie.Need-returns-5
+returns-5 c = search needs
+
+-- src/items.rt:353:16
+add-next : tie.Need-add-next
+add-next c = search needs
+
+-- src/items.rt:353:16
+add-next-2 : tie.Need-add-next-2
+add-next-2 c = search needs
+
+-- src/items.rt:355:9
+any-two-requires-6 : tie.Need-any-two-requires-6
+any-two-requires-6 c κs = search needs
+
+-- src/items.rt:355:9
+returns-6 : tie.Need-returns-6
+returns-6 c = search needs
+
+-- src/items.rt:357:9
+size-at-requires-3 : tie.Need-size-at-requires-3
+size-at-requires-3 c κs = search needs
+
+-- src/items.rt:359:9
+any-two-requires-7 : tie.Need-any-two-requires-7
+any-two-requires-7 c κs = search needs
+
+-- src/items.rt:359:9
+returns-7 : tie.Need-returns-7
+returns-7 c = search needs
+
+-- src/items.rt:361:8
+sub-if8 : tie.Need-sub-if8
+sub-if8 c = search needs
+
+-- src/items.rt:362:9
+any-two-requires-8 : tie.Need-any-two-requires-8
+any-two-requires-8 c κs = search needs
+
+-- src/items.rt:362:9
+returns-8 : tie.Need-returns-8
+returns-8 c = search needs
+
+-- src/items.rt:366:20
+add-t8 : tie.Need-add-t8
+add-t8 c = search needs
+
+-- src/items.rt:370:20
+add-t10 : tie.Need-add-t10
+add-t10 c = search needs
+
+-- src/items.rt:332:1
+returns-9 : tie.Need-returns-9
+returns-9 c =
+    let a = c .before .before .before .before .before .before .before .before .before .before .before .before .args in
+    short-two (a .s .now) (a .c .position) (omega arith) (sym (c .before .before .before .before .before .before .before .before .size-at .ensures)) (omega arith) (omega arith) (sym (c .before .before .before .before .before .size-at2 .ensures)) (omega arith) refl (sym (c .before .before .size-at3 .ensures)) (omega arith) (omega arith)
 
 pub find-two-spec : {M : Type 1} → statement M
 find-two-spec =
     tie.close
     (tie.spec
-    head-requires
-    enum-known-count
+    any-two-requires
     returns
-    first-two-requires
-    enum-told
+    sub-if2
+    any-two-requires-2
     returns-2
-    returns-3)
+    add-size-at
+    size-at-requires
+    any-two-requires-3
+    returns-3
+    any-two-requires-4
+    returns-4
+    add-size-at-2
+    size-at-requires-2
+    any-two-requires-5
+    returns-5
+    add-next
+    add-next-2
+    any-two-requires-6
+    returns-6
+    size-at-requires-3
+    any-two-requires-7
+    returns-7
+    sub-if8
+    any-two-requires-8
+    returns-8
+    add-t8
+    add-t10
+    returns-9)
