@@ -1,7 +1,9 @@
 """Asks the prover about wrong programs: changes one comparison, operator, constant or answer of a crate's code at a time, in a copy of the
 repository, and runs `rt dev` on it. Run by hand, not by the gate: a crate takes minutes.
 
-    python3 tools/mutate.py [--from K] [--most N] [--list] CRATE [CRATE ..]
+    python3 tools/mutate.py [--of-one N] [--list] CRATE [CRATE ..]
+
+With --of-one at most N mutants of a function or constant are judged, spread evenly over it: straight-line code has hundreds of a kind.
 
 A function's proof sees no other function's code, only its contract. So one run of the prover judges several mutants at once, at most one in each
 function and none in two functions of which one reaches the other by calls: each function has its own verdict. A mutant that is accepted so is
@@ -289,12 +291,26 @@ def copied(home, folder):
     return root
 
 
-def run(root, crate, first, most):
-    """Judges the mutants of a crate; returns how many had which verdict."""
+def spread(mutants, most):
+    """At most so many of the numbered mutants of each function or constant, spread evenly."""
+    places = {}
+    for number, mutant in mutants:
+        places.setdefault((mutant.path, mutant.full or mutant.function), []).append((number, mutant))
+    kept = []
+    for group in places.values():
+        few = min(most, len(group))
+        kept += [group[k * len(group) // few] for k in range(few)]
+    return sorted(kept)
+
+
+def run(root, crate, most):
+    """Judges the mutants of a crate; returns how many had which verdict, and how many were left out."""
     figures = dict.fromkeys(VERDICTS, 0)
     prover = Prover(root, crate)
     prover.begin()
-    chosen = list(enumerate(mutants_of(root, crate)))[first : first + most]
+    every = list(enumerate(mutants_of(root, crate)))
+    chosen = spread(every, most)
+    figures["left out"] = len(every) - len(chosen)
     for group in rounds_of(chosen, reach_of(root, crate)):
         for (number, mutant), said in zip(group, judged(prover, [mutant for _, mutant in group])):
             figures[said] += 1
@@ -304,8 +320,7 @@ def run(root, crate, first, most):
 
 def main(arguments):
     parser = argparse.ArgumentParser(description=__doc__.splitlines()[0])
-    parser.add_argument("--from", dest="first", type=int, default=0)
-    parser.add_argument("--most", type=int, default=sys.maxsize)
+    parser.add_argument("--of-one", type=int, default=sys.maxsize)
     parser.add_argument("--list", action="store_true")
     parser.add_argument("crates", nargs="+")
     chosen = parser.parse_args(arguments)
@@ -318,7 +333,7 @@ def main(arguments):
     with tempfile.TemporaryDirectory() as folder:
         root = copied(HOME, folder)
         for crate in chosen.crates:
-            figures = run(root, crate, chosen.first, chosen.most)
+            figures = run(root, crate, chosen.of_one)
             open_ones += figures["ACCEPTED"] + figures["no verdict"]
             print(f"{crate}: " + ", ".join(f"{count} {said}" for said, count in figures.items()), flush=True)
     return 1 if open_ones else 0

@@ -92,6 +92,12 @@ class Rounds(Tree):
     def test_unrelated_functions_together(self):
         self.assertTrue(any({JUDGE, IS_MARK} <= {mutant.full for mutant in group} for group in self.rounds()))
 
+    def test_some_of_each_function(self):
+        chosen = mutate.spread(list(enumerate(self.mutants)), 2)
+        kept = [mutant.full for _, mutant in chosen]
+        self.assertEqual([2, 2, 2, 2], [kept.count(full) for full in (JUDGE, IS_MARK, NAMED, "")])
+        self.assertEqual(len(self.mutants), len(mutate.spread(list(enumerate(self.mutants)), 100)))
+
     def test_a_constant_alone(self):
         self.assertTrue(all(len(group) == 1 for group in self.rounds() if any(not mutant.full for mutant in group)))
 
