@@ -39,9 +39,9 @@ short-two s at {count} {first} {next} {second} big counted several few one low g
     let head = short-head s at {count = count} {next = at + 2} big (omega arith) (omega arith) counted few in
     let k : at + 2 + 1 ≡ at + 3 = omega arith in
     let here : itemAt 1000009 at s (at + 2) ≡ ok (at + 3, first) next =
-        short-item 1000009 at s big (omega arith) one low (omega arith) (omega arith) (omega arith) ∙ ap (λ (p : ℕ). ok (p, first) next) k in
+    short-item 1000009 at s big (omega arith) one low (omega arith) (omega arith) (omega arith) ∙ ap (λ (p : ℕ). ok (p, first) next) k in
     let later : itemAt 1000009 at s next ≡ ok (next + 1, second) (next + 1 + second) =
-        short-item 1000009 at s big (omega arith) two low′ (omega arith) (omega arith) (omega arith) in
+    short-item 1000009 at s big (omega arith) two low′ (omega arith) (omega arith) (omega arith) in
     let both = seek-second s at head in
     (sym (ap found here) ∙ seek-first s at head (λ z. omega arith), (rw (lt-ltb 1 count (omega arith), here, later) at both))
 

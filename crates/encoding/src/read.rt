@@ -4,9 +4,7 @@ use refusal::Stop;
 ghost use mathlib.Core.Path.{_≡_};
 ghost use Prim.Native.Nat.{ℕ, _+_, _-_, _≤_, _<_};
 ghost use lib.ListN.{length, take, drop};
-ghost use lib.Dec.{eqb};
 ghost use Rattle.words.specs.Words.{le};
-ghost use Rattle.words.specs.Buffers.{pick};
 ghost use Rattle.refusal.specs.Outcome.{then};
 ghost use Rattle.refusal.specs.declared.Refusal.{Refusal};
 ghost use Rattle.encoding.specs.Wire.{remainingAt, sliceAt, bytesAt, fixedAt, canonical, compactAt, compactMost, boundedAt, varbytesAt, finishAt};
@@ -212,33 +210,41 @@ impl Cursor {
         self.fixed(s, 8)
     }
 
-    // The number behind a tag that says how wide it is.
-    fn long_form(self, s: &[u8], tag: u8) -> ReadU64
-        ensures { λ r. ⌜ u64Paper r ≡ pick (eqb tag 253) (then (fixedAt 2 (now (s .entry)) (self .position)) (canonical 16 253)) (pick (eqb tag 254) (then (fixedAt 4 (now (s .entry)) (self .position)) (canonical 32 65536)) (then (fixedAt 8 (now (s .entry)) (self .position)) (canonical 64 4294967296))) ⌝ }
+    // A compact size of any width.
+    fn any_compact(self, s: &[u8]) -> ReadU64
+        ensures { λ r. ⌜ u64Paper r ≡ compactAt (now (s .entry)) (self .position) ⌝ }
     {
-        if tag == 253 {
-            return shortest(self.fixed(s, 2), 16, 253);
+        match self.read_u8(s) {
+            ReadU8::Value(tag, next) => {
+                if tag < 253 {
+                    return ReadU64::Value(wide(tag), next);
+                }
+                if tag == 253 {
+                    return shortest(next.fixed(s, 2), 16, 253);
+                }
+                if tag == 254 {
+                    return shortest(next.fixed(s, 4), 32, 65536);
+                }
+                shortest(next.fixed(s, 8), 64, 4294967296)
+            }
+            ReadU8::Refused(stop) => ReadU64::Refused(stop),
         }
-        if tag == 254 {
-            return shortest(self.fixed(s, 4), 32, 65536);
-        }
-        shortest(self.fixed(s, 8), 64, 4294967296)
     }
 
-    // Most sizes are one byte: that path is short enough to be compiled into its callers.
+    // Most sizes are one byte: this way is short enough to be compiled into its callers.
     pub fn read_compact_size(self, s: &[u8]) -> ReadU64
         ensures { λ r. ⌜ u64Paper r ≡ compactAt (now (s .entry)) (self .position) ⌝ }
     {
         let at = self.position;
         if s.len() <= at {
-            return self.fixed(s, 1);
+            return self.any_compact(s);
         }
         let tag = s[at];
-        let next = Cursor { position: at + 1 };
-        if tag < 253 {
-            return ReadU64::Value(wide(tag), next);
+        if 252 < tag {
+            return self.any_compact(s);
         }
-        next.long_form(s, tag)
+        let position = at + 1;
+        ReadU64::Value(wide(tag), Cursor { position })
     }
 
     // A compact size of at most `maximum`.

@@ -12,11 +12,13 @@ use primitives::ReadOutpoint;
 use primitives::TransactionHash;
 use refusal::Refusal;
 use refusal::Stop;
+use words::load::load_u64;
 ghost use mathlib.Core.Path.{_≡_};
 ghost use mathlib.Core.Bool.{true};
 ghost use Prim.Native.Nat.{_+_, _≤_, _<_, _^_};
 ghost use lib.ListN.{length};
 ghost use lib.Dec.{eqb};
+ghost use Rattle.words.specs.Words.{bytes};
 ghost use Rattle.words.specs.Buffers.{pick};
 ghost use Rattle.refusal.specs.Outcome.{then, manyAt, past};
 ghost use Rattle.refusal.specs.declared.Refusal.{Refusal};
@@ -75,6 +77,35 @@ fn be_at(s: &[u8], at: usize, n: usize) -> u64
         i += 1;
     }
     v
+}
+
+// The number of the same eight bytes, read from the other end: compiled to one instruction.
+fn turned(v: u64) -> u64
+    ensures { λ r. ⌜ r ≡ be (bytes 8 v) ⌝ }
+{
+    let v1 = v / 256;
+    let v2 = v1 / 256;
+    let v3 = v2 / 256;
+    let v4 = v3 / 256;
+    let v5 = v4 / 256;
+    let v6 = v5 / 256;
+    let v7 = v6 / 256;
+    v % 256 * 0x100000000000000
+        + v1 % 256 * 0x1000000000000
+        + v2 % 256 * 0x10000000000
+        + v3 % 256 * 0x100000000
+        + v4 % 256 * 0x1000000
+        + v5 % 256 * 0x10000
+        + v6 % 256 * 0x100
+        + v7 % 256
+}
+
+// The number that the eight bytes from `at` on spell, the highest byte first.
+fn be_eight(s: &[u8], at: usize) -> u64
+    requires { ⌜ at + 8 ≤ length (now s) ⌝ }
+    ensures { λ r. ⌜ r ≡ be (bytesIn (now (s .entry)) (at, 8)) ⌝ }
+{
+    turned(load_u64(s, at))
 }
 
 // A wrong fixed field, which begins at `offset`.
@@ -216,7 +247,7 @@ pub fn place_at(c: Cursor, s: &[u8], side: u8) -> ReadPlace
                 return ReadPlace::Refused(wrong_field(side, at + 9));
             }
             let version = s[at + 8];
-            body(next, s, be_at(s, at, 8), version, (last % 64) as usize)
+            body(next, s, be_eight(s, at), version, (last % 64) as usize)
         }
         ReadSpan::Refused(stop) => ReadPlace::Refused(stop),
     }

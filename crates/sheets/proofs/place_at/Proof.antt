@@ -36,8 +36,8 @@ add-version c = let p = slice.read _ _ _ (omega arith) (told spanPaper (c .befor
 shared-slice-read-version : tie.Need-shared-slice-read-version
 shared-slice-read-version c = let p = slice.read _ _ _ (omega arith) (told spanPaper (c .before .before .before .before .before .before .read-slice .ensures) (c .before .before .before .before .next .given .1)) in omega (arith, p .fits)
 
-be-at-requires : tie.Need-be-at-requires
-be-at-requires c κs = let p = slice.read _ _ _ (omega arith) (told spanPaper (c .before .before .before .before .before .before .read-slice .ensures) (c .before .before .before .before .next .given .1)) in (omega arith, omega (arith, p .fits))
+be-eight-requires : tie.Need-be-eight-requires
+be-eight-requires c κs = let p = slice.read _ _ _ (omega arith) (told spanPaper (c .before .before .before .before .before .before .read-slice .ensures) (c .before .before .before .before .next .given .1)) in omega (arith, p .fits)
 
 cast-body : tie.Need-cast-body
 cast-body c = search needs
@@ -50,7 +50,7 @@ enum-known-stop c = search needs
 
 returns-2 : tie.Need-returns-2
 unfolding placeAt
-returns-2 c = rw (← c .before .before .before .before .before .before .before .before .read-slice .ensures, c .before .before .before .before .before .before .next .given .1, eq-eqb _ _ (c .before .before .before .if1 .left), ← c .before .be-at .ensures .0) (c .body .ensures)
+returns-2 c = rw (← c .before .before .before .before .before .before .before .before .read-slice .ensures, c .before .before .before .before .before .before .next .given .1, eq-eqb _ _ (c .before .before .before .if1 .left), ← c .before .be-eight .ensures) (c .body .ensures)
 
 returns-3 : tie.Need-returns-3
 unfolding placeAt
@@ -69,7 +69,7 @@ place-at-spec =
     returns
     add-version
     shared-slice-read-version
-    be-at-requires
+    be-eight-requires
     cast-body
     body-requires
     enum-known-stop
