@@ -1,5 +1,5 @@
 -- Items whose length is one byte, and a count that is.
-use mathlib.Core.Path.{_≡_, ap, sym, _∙_}
+use mathlib.Core.Path.{_≡_, ap, _∙_}
 use Prim.Native.Nat.{ℕ, _+_, _-_, _^_, _≤_, _<_}
 use native.Mathlib.Omega.{arith}
 use mathlib.Core.List.{List}
@@ -11,8 +11,7 @@ use Rattle.encoding.specs.Wire.{most, compactMost}
 use Rattle.encoding.proofs.Slice as slice
 use Rattle.encoding.proofs.Fixed.{byte-read, compact-byte}
 use Rattle.covenants.specs.Covenant.{allowed, itemAt, headAt}
-use Rattle.covenants.specs.Items.{there, found, seekAt}
-use Rattle.covenants.proofs.Places.{seek-first, seek-second}
+use Rattle.covenants.specs.Items.{there, seekAt}
 
 -- one that fits the bytes and the allowance is read
 pub short-item : (allowance start : ℕ) (s : List ℕ) {at size next : ℕ} → length s < 2 ^ 64 → start ≤ at → getD s at 0 ≡ size → size < 253 → next ≡ at + 1 + size
@@ -34,7 +33,7 @@ short-head s at {count} {next} big goes fits e short =
 pub short-two : (s : List ℕ) (at : ℕ) {count first next second : ℕ} → length s < 2 ^ 64 → getD s (at + 1) 0 ≡ count → 2 ≤ count → count < 253
     → getD s (at + 2) 0 ≡ first → first < 253 → next ≡ at + 3 + first → getD s next 0 ≡ second → second < 253 → next + 1 + second ≤ length s
     → (there (at + 3, first) ≡ seekAt s at 0) × (there (next + 1, second) ≡ seekAt s at 1)
-unfolding manyAt
+unfolding seekAt manyAt
 short-two s at {count} {first} {next} {second} big counted several few one low goes two low′ fits =
     let head = short-head s at {count = count} {next = at + 2} big (omega arith) (omega arith) counted few in
     let k : at + 2 + 1 ≡ at + 3 = omega arith in
@@ -42,8 +41,7 @@ short-two s at {count} {first} {next} {second} big counted several few one low g
     short-item 1000009 at s big (omega arith) one low (omega arith) (omega arith) (omega arith) ∙ ap (λ (p : ℕ). ok (p, first) next) k in
     let later : itemAt 1000009 at s next ≡ ok (next + 1, second) (next + 1 + second) =
     short-item 1000009 at s big (omega arith) two low′ (omega arith) (omega arith) (omega arith) in
-    let both = seek-second s at head in
-    (sym (ap found here) ∙ seek-first s at head (λ z. omega arith), (rw (lt-ltb 1 count (omega arith), here, later) at both))
+    (rw (head, lt-ltb 0 count (omega arith), here), rw (head, lt-ltb 1 count (omega arith), here, later))
 
 -- a loop that passes items may pass some of them by another
 pub onward : {A : Type 0} (read : ℕ → Outcome A) {n from at i at′ i′ : ℕ} → Passing read n from at i → i′ ≤ n → past (manyAt read (n - i′) at′) ≡ past (manyAt read (n - i) at)

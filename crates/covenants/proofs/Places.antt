@@ -4,19 +4,16 @@ use Prim.Native.Nat.{ℕ, _+_, _^_, _≤_, _<_}
 use native.Mathlib.Omega.{arith}
 use mathlib.Core.List.{List}
 use lib.ListN.{length, take, drop}
-use mathlib.Core.Bool.{Bool, true, false}
-use lib.Dec.{ltb}
-use borrow.Author.Tests.{lt-ltb, le-ltb, eq-eqb, ne-eqb, le-leb, lt-leb}
+use borrow.Author.Tests.{eq-eqb, ne-eqb, le-leb, lt-leb}
 use Rattle.words.specs.Words.{le}
-use Rattle.words.specs.Buffers.{pick}
 use Rattle.words.proofs.Cases.{by-order}
 use Rattle.refusal.specs.Outcome.{Outcome, ok, err, then, past, manyAt}
 use Rattle.refusal.proofs.Outcomes.{never, then-ok, then-err, past-ok, then-past}
 use Rattle.encoding.specs.Wire.{bytesAt, fixedAt}
 use Rattle.encoding.proofs.Fixed.{bytes-read}
 use Rattle.encoding.proofs.Slice as slice
-use Rattle.covenants.specs.Covenant.{itemAt, headAt}
-use Rattle.covenants.specs.Items.{there, absent, found, spelled, wide, numberIn, seekAt}
+use Rattle.covenants.specs.Covenant.{itemAt}
+use Rattle.covenants.specs.Items.{there, absent, found, spelled, wide, numberIn}
 use Rattle.covenants.proofs.Moves.{items-move}
 
 module _ (n : ℕ) (s : List ℕ) (start len : ℕ) where
@@ -78,27 +75,3 @@ module _ (start : ℕ) (s : List ℕ) (index from : ℕ) where
 
   pub scan-later : {next : ℕ} → past Before ≡ ok tt next → length s < 2 ^ 64 → from ≤ next
   scan-later e big = items-move 1000009 start s big index from (past-ok Before e .1) .0
-
--- ---- a scan for the first two items
-
-pub alike : {X : Type 0} (t : Bool) (x : X) → x ≡ pick t x x
-alike true x = refl
-alike false x = refl
-
-module _ (s : List ℕ) (at : ℕ) where
-  pub seek-refused : (index : ℕ) {k : ℕ} {vs : List ℕ} {p : ℕ} → headAt 1000009 s at ≡ err k vs p → absent ≡ seekAt s at index
-  unfolding seekAt
-  seek-refused index e = rw e
-
-  module _ {kind count next : ℕ} (head : headAt 1000009 s at ≡ ok (kind, count) next) where
-    pub seek-none : (index : ℕ) → count ≡ 0 → absent ≡ seekAt s at index
-    unfolding seekAt
-    seek-none index z = rw (head, le-ltb index count (omega arith))
-
-    pub seek-first : (count ≡ 0 → ⊥) → found (itemAt 1000009 at s next) ≡ seekAt s at 0
-    unfolding seekAt manyAt
-    seek-first h = rw (head, lt-ltb 0 count (omega arith))
-
-    pub seek-second : pick (ltb 1 count) (found (then (manyAt (itemAt 1000009 at s) 1 next) (λ before next. itemAt 1000009 at s next))) absent ≡ seekAt s at 1
-    unfolding seekAt
-    seek-second = rw head

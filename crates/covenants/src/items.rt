@@ -16,8 +16,6 @@ ghost use mathlib.Core.Bool.{true, false};
 ghost use Prim.Native.Nat.{_≤_, _<_};
 ghost use lib.ListN.{length, getD};
 ghost use Rattle.refusal.specs.Outcome.{then, manyAt};
-ghost use lib.Dec.{ltb};
-ghost use Rattle.words.specs.Buffers.{pick};
 ghost use Rattle.covenants.specs.Covenant.{itemAt};
 ghost use Rattle.covenants.specs.Items.{absent, found, directoryItem, seekAt, wide, numberIn};
 ghost use Rattle.covenants.specs.Paper.{spotPaper, itemU8Paper, itemU32Paper, itemU64Paper, nameHashPaper, shownHash};
@@ -256,67 +254,13 @@ pub fn find(c: Cursor, s: &[u8], index: usize) -> Spot
     }
 }
 
-// The second item, where there are as many: the first ends at `from`.
-fn second_item(from: Cursor, s: &[u8], start: usize, count: usize) -> Spot
-    requires { ⌜ start ≤ from .position ⌝ }
-    ensures { λ r. ⌜ spotPaper r ≡ pick (ltb 1 count) (found (itemAt 1000009 start (now (s .entry)) (from .position))) absent ⌝ }
-{
-    if count <= 1 {
-        return Spot::Absent;
-    }
-    match crate::item(from, s, start, Covenant::MAX_ENCODED_SIZE) {
-        ReadSpan::Span {
-            start: at,
-            len,
-            next: _,
-        } => Spot::Part { start: at, len },
-        ReadSpan::Refused(_) => Spot::Absent,
-    }
-}
-
-// The first two of so many items, of a covenant that began at `start` and whose first item stands at `from`.
-fn first_two(from: Cursor, s: &[u8], start: usize, count: usize) -> Two
-    requires { ⌜ start ≤ from .position ⌝ }
-    ensures { λ r. ⌜ (spotPaper (r .first) ≡ found (itemAt 1000009 start (now (s .entry)) (from .position))) × (spotPaper (r .second) ≡ pick (ltb 1 count) (found (then (manyAt (itemAt 1000009 start (now (s .entry))) 1 (from .position)) (λ before next. itemAt 1000009 start (now (s .entry)) next))) absent) ⌝ }
-{
-    match crate::item(from, s, start, Covenant::MAX_ENCODED_SIZE) {
-        ReadSpan::Span {
-            start: at,
-            len,
-            next,
-        } => Two {
-            first: Spot::Part { start: at, len },
-            second: second_item(next, s, start, count),
-        },
-        ReadSpan::Refused(_) => Two {
-            first: Spot::Absent,
-            second: Spot::Absent,
-        },
-    }
-}
-
-// Items 0 and 1 of the covenant that stands at c, however long its count and its lengths are.
-fn any_two(c: Cursor, s: &[u8]) -> Two
+// Items 0 and 1 of the covenant that stands at c, by a scan for each.
+fn two_scans(c: Cursor, s: &[u8]) -> Two
     ensures { λ r. ⌜ (spotPaper (r .first) ≡ seekAt (now (s .entry)) (c .position) 0) × (spotPaper (r .second) ≡ seekAt (now (s .entry)) (c .position) 1) ⌝ }
 {
-    match head(c, s, Covenant::MAX_ENCODED_SIZE) {
-        ReadHead::Head {
-            kind: _,
-            count,
-            next,
-        } => {
-            if count == 0 {
-                return Two {
-                    first: Spot::Absent,
-                    second: Spot::Absent,
-                };
-            }
-            first_two(next, s, c.position, count)
-        }
-        ReadHead::Refused(_) => Two {
-            first: Spot::Absent,
-            second: Spot::Absent,
-        },
+    Two {
+        first: find(c, &s[..], 0),
+        second: find(c, &s[..], 1),
     }
 }
 
@@ -328,38 +272,38 @@ fn size_at(s: &[u8], at: usize) -> usize
     s[at] as usize
 }
 
-// Items 0 and 1 of the covenant that stands at c, by one scan. Mostly its count and both lengths are one byte each.
+// Items 0 and 1 of the covenant that stands at c. Mostly its count and both lengths are one byte each, and no scan is needed.
 pub fn find_two(c: Cursor, s: &[u8]) -> Two
     ensures { λ r. ⌜ (spotPaper (r .first) ≡ seekAt (now (s .entry)) (c .position) 0) × (spotPaper (r .second) ≡ seekAt (now (s .entry)) (c .position) 1) ⌝ }
 {
     let at = c.position;
     if s.len() < 3 {
-        return any_two(c, s);
+        return two_scans(c, &s[..]);
     }
     if s.len() - 3 < at {
-        return any_two(c, s);
+        return two_scans(c, &s[..]);
     }
     let count = size_at(s, at + 1);
     if count < 2 {
-        return any_two(c, s);
+        return two_scans(c, &s[..]);
     }
     if 252 < count {
-        return any_two(c, s);
+        return two_scans(c, &s[..]);
     }
     let first = size_at(s, at + 2);
     if 252 < first {
-        return any_two(c, s);
+        return two_scans(c, &s[..]);
     }
     let next = at + 3 + first;
     if s.len() <= next {
-        return any_two(c, s);
+        return two_scans(c, &s[..]);
     }
     let second = size_at(s, next);
     if 252 < second {
-        return any_two(c, s);
+        return two_scans(c, &s[..]);
     }
     if s.len() - next <= second {
-        return any_two(c, s);
+        return two_scans(c, &s[..]);
     }
     Two {
         first: Spot::Part {

@@ -44,7 +44,7 @@ impl Covenant {
         let allowance = capped(limit);
         match opened(c, s, allowance) {
             ReadHead::Head { kind, count, next } => {
-                match pass_items(next, s, c.position, allowance, count) {
+                match pass_items(next, &s[..], c.position, allowance, count) {
                     Moved::To(end) => {
                         let used = end.position - c.position;
                         ReadCovenant::Accepted {

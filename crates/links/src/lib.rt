@@ -74,9 +74,9 @@ fn judged_links(tx: &[u8], coins: &[u8], inputs: usize, outputs: usize, n: usize
 pub fn verify_covenant_links(tx: &[u8], coins: &[u8]) -> Verified
     ensures { λ r. ⌜ verifiedPaper r ≡ verifyOf (now (tx .entry)) (now (coins .entry)) ⌝ }
 {
-    match judge_transaction(tx) {
-        SheetRead::Counts(inputs, outputs) => match judge_coins(coins) {
-            SheetRead::Counts(n, _) => judged_links(tx, coins, inputs, outputs, n),
+    match judge_transaction(&tx[..]) {
+        SheetRead::Counts(inputs, outputs) => match judge_coins(&coins[..]) {
+            SheetRead::Counts(n, _) => judged_links(&tx[..], &coins[..], inputs, outputs, n),
             SheetRead::Refused { refusal, side } => answered(Links::Refused { refusal, side }),
         },
         SheetRead::Refused { refusal, side } => answered(Links::Refused { refusal, side }),

@@ -146,13 +146,13 @@ fn name_and_start(tx: &[u8], coins: &[u8], input: usize, spent: Place, made: Pla
         Cursor {
             position: spent.covenant,
         },
-        coins,
+        &coins[..],
     );
     let made_items = find_two(
         Cursor {
             position: made.covenant,
         },
-        tx,
+        &tx[..],
     );
     let mut k: usize = 0;
     let answer = 'items: loop {

@@ -6,12 +6,12 @@ use Rattle.covenants.proofs.items.find_two.Statement.{statement}
 use Rattle.covenants.proofs.items.find_two.Tie as tie
 use Rattle.covenants.proofs.items.find_two.Reads as reads
 use Rattle.covenants.proofs.items.find_two.Lts as lts
-use Rattle.covenants.proofs.items.any_two.Reads as any-two-reads
+use Rattle.covenants.proofs.items.two_scans.Reads as two-scans-reads
 use Rattle.covenants.proofs.items.size_at.Reads as size-at-reads
 
 -- src/items.rt:337:9
-any-two-requires : tie.Need-any-two-requires
-any-two-requires c κs = search needs
+two-scans-requires : tie.Need-two-scans-requires
+two-scans-requires c κs = search needs
 
 -- src/items.rt:337:9
 returns : tie.Need-returns
@@ -22,8 +22,8 @@ sub-if2 : tie.Need-sub-if2
 sub-if2 c = search needs
 
 -- src/items.rt:340:9
-any-two-requires-2 : tie.Need-any-two-requires-2
-any-two-requires-2 c κs = search needs
+two-scans-requires-2 : tie.Need-two-scans-requires-2
+two-scans-requires-2 c κs = search needs
 
 -- src/items.rt:340:9
 returns-2 : tie.Need-returns-2
@@ -38,16 +38,16 @@ size-at-requires : tie.Need-size-at-requires
 size-at-requires c κs = search needs
 
 -- src/items.rt:344:9
-any-two-requires-3 : tie.Need-any-two-requires-3
-any-two-requires-3 c κs = search needs
+two-scans-requires-3 : tie.Need-two-scans-requires-3
+two-scans-requires-3 c κs = search needs
 
 -- src/items.rt:344:9
 returns-3 : tie.Need-returns-3
 returns-3 c = search needs
 
 -- src/items.rt:347:9
-any-two-requires-4 : tie.Need-any-two-requires-4
-any-two-requires-4 c κs = search needs
+two-scans-requires-4 : tie.Need-two-scans-requires-4
+two-scans-requires-4 c κs = search needs
 
 -- src/items.rt:347:9
 returns-4 : tie.Need-returns-4
@@ -62,8 +62,8 @@ size-at-requires-2 : tie.Need-size-at-requires-2
 size-at-requires-2 c κs = search needs
 
 -- src/items.rt:351:9
-any-two-requires-5 : tie.Need-any-two-requires-5
-any-two-requires-5 c κs = search needs
+two-scans-requires-5 : tie.Need-two-scans-requires-5
+two-scans-requires-5 c κs = search needs
 
 -- src/items.rt:351:9
 returns-5 : tie.Need-returns-5
@@ -78,8 +78,8 @@ add-next-2 : tie.Need-add-next-2
 add-next-2 c = search needs
 
 -- src/items.rt:355:9
-any-two-requires-6 : tie.Need-any-two-requires-6
-any-two-requires-6 c κs = search needs
+two-scans-requires-6 : tie.Need-two-scans-requires-6
+two-scans-requires-6 c κs = search needs
 
 -- src/items.rt:355:9
 returns-6 : tie.Need-returns-6
@@ -90,8 +90,8 @@ size-at-requires-3 : tie.Need-size-at-requires-3
 size-at-requires-3 c κs = search needs
 
 -- src/items.rt:359:9
-any-two-requires-7 : tie.Need-any-two-requires-7
-any-two-requires-7 c κs = search needs
+two-scans-requires-7 : tie.Need-two-scans-requires-7
+two-scans-requires-7 c κs = search needs
 
 -- src/items.rt:359:9
 returns-7 : tie.Need-returns-7
@@ -102,8 +102,8 @@ sub-if8 : tie.Need-sub-if8
 sub-if8 c = search needs
 
 -- src/items.rt:362:9
-any-two-requires-8 : tie.Need-any-two-requires-8
-any-two-requires-8 c κs = search needs
+two-scans-requires-8 : tie.Need-two-scans-requires-8
+two-scans-requires-8 c κs = search needs
 
 -- src/items.rt:362:9
 returns-8 : tie.Need-returns-8
@@ -114,8 +114,8 @@ add-t8 : tie.Need-add-t8
 add-t8 c = search needs
 
 -- src/items.rt:370:20
-add-t10 : tie.Need-add-t10
-add-t10 c = search needs
+add-t12 : tie.Need-add-t12
+add-t12 c = search needs
 
 -- src/items.rt:332:1
 returns-9 : tie.Need-returns-9
@@ -127,31 +127,31 @@ pub find-two-spec : {M : Type 1} → statement M
 find-two-spec =
     tie.close
     (tie.spec
-    any-two-requires
+    two-scans-requires
     returns
     sub-if2
-    any-two-requires-2
+    two-scans-requires-2
     returns-2
     add-size-at
     size-at-requires
-    any-two-requires-3
+    two-scans-requires-3
     returns-3
-    any-two-requires-4
+    two-scans-requires-4
     returns-4
     add-size-at-2
     size-at-requires-2
-    any-two-requires-5
+    two-scans-requires-5
     returns-5
     add-next
     add-next-2
-    any-two-requires-6
+    two-scans-requires-6
     returns-6
     size-at-requires-3
-    any-two-requires-7
+    two-scans-requires-7
     returns-7
     sub-if8
-    any-two-requires-8
+    two-scans-requires-8
     returns-8
     add-t8
-    add-t10
+    add-t12
     returns-9)
