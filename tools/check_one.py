@@ -67,7 +67,7 @@ def theorems_of(code):
     meant = {}
     for match in ABBREVIATION.finditer(code):
         name = match["name"]
-        body = re.search(rf"^ *{re.escape(name)} [^\n]*=", code[match.end() :], re.MULTILINE)
+        body = re.search(rf"^ *{re.escape(name)} [^\n=]*=", code[match.end() :], re.MULTILINE)
         meant[name] = words_of(parts_of(code, match.end() + body.end())) if body else Counter()
     theorems = {}
     for match in THEOREM.finditer(code):
