@@ -4,21 +4,25 @@ mod keccak;
 ghost use mathlib.Core.Path.{_≡_};
 ghost use Prim.Native.Nat.{_+_, _*_, _%_, _≤_, _<_};
 ghost use lib.ListN.{length, take, drop};
+ghost use Rattle.words.specs.Words.{lanes};
 ghost use Rattle.sha3.specs.Keccak.{keccakP};
 ghost use Rattle.sha3.specs.Sha3.{bitsOf, packed, pad101, mixed, padded, block, suffixed, sha3};
 use crate::keccak::permute;
-use words::load::load_words;
+use words::load::load_u64;
 use words::store::put_bytes;
 use words::store::words_bytes;
 
-// The state with the lanes of a block taken in.
-fn mix(s: [u64; 25], w: [u64; 17]) -> [u64; 25]
-    ensures { λ r. ⌜ r ≡ mixed s w ⌝ }
+// The state with the lanes of a block taken in, each as it is loaded: the 136 bytes from `at` on.
+fn mix(s: [u64; 25], m: &[u8], at: usize) -> [u64; 25]
+    requires { ⌜ at + 136 ≤ length (now m) ⌝ }
+    ensures { λ r. ⌜ r ≡ mixed s (lanes 17 (drop at (now (m .entry)))) ⌝ }
 {
     let mut t = s;
+    let mut next = at;
     let mut i = 0;
     while i < 17 {
-        t[i] = t[i] ^ w[i];
+        t[i] = t[i] ^ load_u64(m, next);
+        next += 8;
         i += 1;
     }
     t
@@ -26,12 +30,11 @@ fn mix(s: [u64; 25], w: [u64; 17]) -> [u64; 25]
 
 // One block absorbed: the 136 bytes from `at` on.
 fn absorb_block(s: &mut [u64; 25], m: &[u8], at: usize)
+    requires { ⌜ at + 136 ≤ length (now m) ⌝ }
     ensures { λ _. ⌜ now (s .exit) ≡ block keccakP 1088 (now (s .entry)) (bitsOf 8 (drop at (now (m .entry)))) ⌝ }
 {
-    let mut w = [0u64; 17];
-    load_words(&mut w, m, at);
     let a = *s;
-    let b = permute(mix(a, w));
+    let b = permute(mix(a, m, at));
     *s = b;
 }
 

@@ -4,13 +4,22 @@ use mathlib.Core.List.{List, [], _∷_, _++_, append-nil}
 use Prim.Native.Nat.{ℕ, zero, suc, _+_, _-_, _*_, _≤_, _<_}
 use native.Mathlib.Omega.{arith}
 use lib.ListN.{length, take, drop, getD, set, replicate, length-drop, drop-of-length-le}
-use lib.Seq.{take-append-le, drop-append-le, take-nil, getD-drop, sets, sets-eq}
+use lib.Seq.{take-append-le, drop-append-le, drop-drop, take-nil, getD-drop, sets, sets-eq}
 use Rattle.words.specs.Words.{le, lanes}
 
 pub length-lanes : (n : ℕ) (p : List ℕ) → length (lanes n p) ≡ n
 unfolding lanes
 length-lanes zero p = refl
 length-lanes (suc n) p = ap suc (length-lanes n (drop 8 p))
+
+-- a word by its place
+pub lane-at : (n : ℕ) (p : List ℕ) (i : ℕ) → i < n → getD (lanes n p) i 0 ≡ le (take 8 (drop (8 * i) p))
+unfolding lanes
+lane-at zero p i h = absurd (omega arith)
+lane-at (suc n) p zero h = refl
+lane-at (suc n) p (suc i) h =
+    let k : 8 + 8 * i ≡ 8 * suc i = omega arith in
+    lane-at n (drop 8 p) i (omega arith) ∙ ap (λ (l : List ℕ). le (take 8 l)) (drop-drop (8 * i) 8 p ∙ ap (λ (j : ℕ). drop j p) k)
 
 -- words that lie in the first part
 pub lanes-append : (n : ℕ) (q r : List ℕ) → 8 * n ≤ length q → lanes n (q ++ r) ≡ lanes n q

@@ -8,28 +8,23 @@ use borrow.Author.Needs.{needs}
 use Rattle.sha3.proofs.absorb_block.Statement.{statement}
 use Rattle.sha3.proofs.absorb_block.Tie as tie
 
-slice-aggregate-load-words : tie.Need-slice-aggregate-load-words
-slice-aggregate-load-words c = search needs
-
-load-words-requires : tie.Need-load-words-requires
-load-words-requires c κs = search needs
-
+-- src/lib.rt:37:21
 mix-requires : tie.Need-mix-requires
 mix-requires c κs = search needs
 
+-- src/lib.rt:37:9
 permute-requires : tie.Need-permute-requires
 permute-requires c κs = search needs
 
+-- src/lib.rt:32:1
 returns : tie.Need-returns
 unfolding block
 returns c =
-    let a = c .before .before .before .before .before .before .before .args in
+    let a = c .before .before .before .before .args in
     let m = a .m .now in
-    let known = c .before .before .before .before .before .before .shared-slice-known in
+    let known = c .before .before .before .shared-slice-known in
     let w = lanes-bits 17 (drop (a .at) m) (bytes-drop (a .at) m (λ k. known .given k .fits)) in
-    c .permute .ensures ∙ ap keccakP (c .before .mix .ensures ∙ ap (mixed (a .s .now)) (c .before .before .before .before .load-words .ensures ∙ sym w))
+    c .permute .ensures ∙ ap keccakP (c .before .mix .ensures ∙ ap (mixed (a .s .now)) (sym w))
 
 pub absorb-block-spec : {M : Type 1} → statement M
-absorb-block-spec =
-    tie.close
-    (tie.spec slice-aggregate-load-words load-words-requires mix-requires permute-requires returns)
+absorb-block-spec = tie.close (tie.spec mix-requires permute-requires returns)

@@ -1,7 +1,7 @@
 use mathlib.Core.Path.{ap, _∙_}
 use Prim.Native.Nat.{_-_}
 use native.Mathlib.Omega.{arith}
-use lib.ListN.{length, drop, length-drop}
+use lib.ListN.{length, drop, length-drop, length-set}
 use lib.Seq.{take-all}
 use Rattle.sha3.specs.Keccak.{keccakP}
 use Rattle.sha3.specs.Sha3.{block}
@@ -41,7 +41,7 @@ slice-aggregate-absorb-block : tie.Need-slice-aggregate-absorb-block
 slice-aggregate-absorb-block c = search needs
 
 absorb-block-requires : tie.Need-absorb-block-requires
-absorb-block-requires c κs = search needs
+absorb-block-requires c κs = simp length-set (omega arith)
 
 returns : tie.Need-returns
 returns c =
