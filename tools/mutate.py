@@ -1,9 +1,10 @@
 """Asks the prover about wrong programs: changes one comparison, operator, constant or answer of a crate's code at a time, in a copy of the
 repository, and runs `rt dev` on it. Run by hand, not by the gate: a crate takes minutes.
 
-    python3 tools/mutate.py [--of-one N] [--list] CRATE [CRATE ..]
+    python3 tools/mutate.py [--of-one N] [--function NAME].. [--list] CRATE [CRATE ..]
 
-With --of-one at most N mutants of a function or constant are judged, spread evenly over it: straight-line code has hundreds of a kind.
+With --of-one at most N mutants of a function or constant are judged, spread evenly over it: straight-line code has hundreds of a kind. With --function
+only those of the functions and constants of that name are, as after a change of them.
 
 A function's proof sees no other function's code, only its contract. So one run of the prover judges several mutants at once, at most one in each
 function and none in two functions of which one reaches the other by calls: each function has its own verdict. A mutant that is accepted so is
@@ -303,12 +304,17 @@ def spread(mutants, most):
     return sorted(kept)
 
 
-def run(root, crate, most):
-    """Judges the mutants of a crate; returns how many had which verdict, and how many were left out."""
+def chosen_of(root, crate, functions):
+    """The numbered mutants of a crate, or of those functions and constants of it."""
+    return [(number, mutant) for number, mutant in enumerate(mutants_of(root, crate)) if not functions or mutant.function in functions]
+
+
+def run(root, crate, functions, most):
+    """Judges the mutants of a crate, or of some functions of it; returns how many had which verdict, and how many were left out."""
     figures = dict.fromkeys(VERDICTS, 0)
     prover = Prover(root, crate)
     prover.begin()
-    every = list(enumerate(mutants_of(root, crate)))
+    every = chosen_of(root, crate, functions)
     chosen = spread(every, most)
     figures["left out"] = len(every) - len(chosen)
     for group in rounds_of(chosen, reach_of(root, crate)):
@@ -321,19 +327,20 @@ def run(root, crate, most):
 def main(arguments):
     parser = argparse.ArgumentParser(description=__doc__.splitlines()[0])
     parser.add_argument("--of-one", type=int, default=sys.maxsize)
+    parser.add_argument("--function", action="append", default=[])
     parser.add_argument("--list", action="store_true")
     parser.add_argument("crates", nargs="+")
     chosen = parser.parse_args(arguments)
     if chosen.list:
         for crate in chosen.crates:
-            for number, mutant in enumerate(mutants_of(HOME, crate)):
+            for number, mutant in chosen_of(HOME, crate, chosen.function):
                 print(number, mutant.named(HOME))
         return 0
     open_ones = 0
     with tempfile.TemporaryDirectory() as folder:
         root = copied(HOME, folder)
         for crate in chosen.crates:
-            figures = run(root, crate, chosen.of_one)
+            figures = run(root, crate, chosen.function, chosen.of_one)
             open_ones += figures["ACCEPTED"] + figures["no verdict"]
             print(f"{crate}: " + ", ".join(f"{count} {said}" for said, count in figures.items()), flush=True)
     return 1 if open_ones else 0

@@ -98,6 +98,13 @@ class Rounds(Tree):
         self.assertEqual([2, 2, 2, 2], [kept.count(full) for full in (JUDGE, IS_MARK, NAMED, "")])
         self.assertEqual(len(self.mutants), len(mutate.spread(list(enumerate(self.mutants)), 100)))
 
+    def test_named_functions_and_constants_keep_their_numbers(self):
+        numbered = list(enumerate(self.mutants))
+        self.assertEqual(numbered, mutate.chosen_of(self.root, "one", []))
+        some = mutate.chosen_of(self.root, "one", ["named", "MOST"])
+        self.assertEqual({"named", "MOST"}, {mutant.function for _, mutant in some})
+        self.assertLessEqual(set(some), set(numbered))
+
     def test_a_constant_alone(self):
         self.assertTrue(all(len(group) == 1 for group in self.rounds() if any(not mutant.full for mutant in group)))
 
