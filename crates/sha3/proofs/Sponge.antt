@@ -5,10 +5,11 @@ use Prim.Native.Nat.{ℕ, zero, suc, _+_, _-_, _*_, _/_, _%_, _≤_, _<_}
 use native.Mathlib.Nat.{le-of-suc-le-suc, not-suc-le-zero}
 use native.Mathlib.Omega.{arith}
 use lib.Bits.{bitXor}
-use lib.ListN.{length, take, drop, getD, set, length-drop, length-append}
+use lib.ListN.{length, take, drop, getD, set, length-drop, length-append, take-append-drop}
 use lib.Seq.{drop-drop, take-length}
 use Rattle.words.specs.Words.{le, lanes}
-use Rattle.words.proofs.Lanes.{length-lanes, lane-at}
+use Rattle.words.proofs.Le.{part-long}
+use Rattle.words.proofs.Lanes.{length-lanes, lane-at, lanes-append}
 use Rattle.sha3.specs.Keccak.{keccakP}
 use Rattle.sha3.specs.Sha3.{bitsOf, packed, mixed, block, absorbed}
 use Rattle.sha3.proofs.Bits.{bits-append, length-bitsOf, packed-append}
@@ -33,19 +34,25 @@ mixed-more (suc i) (x ∷ s) (y ∷ p) h k = ap (λ (l : List ℕ). bitXor x y �
 pub mixed-all : (s p : List ℕ) (n : ℕ) → n ≡ length p → mixed s (take n p) ≡ mixed s p
 mixed-all s p n e = rw (e, take-length)
 
--- one lane more of a block, as it is loaded from the message
+-- one lane more of a block, as it is loaded
 pub mixed-lane :
-    (s m : List ℕ) (at : ℕ) {i i′ next w : ℕ} → i < 17 → i′ ≡ suc i → next ≡ at + 8 * i → 17 ≤ length s → w ≡ le (take 8 (drop next m)) →
-    set (mixed s (take i (lanes 17 (drop at m)))) i (bitXor (getD (mixed s (take i (lanes 17 (drop at m)))) i 0) w) ≡ mixed s (take i′ (lanes 17 (drop at m)))
-mixed-lane s m at {i} {i′} {next} {w} few more place long loaded =
-    let p : List ℕ = lanes 17 (drop at m) in
-    let n : length p ≡ 17 = length-lanes 17 (drop at m) in
-    let e : w ≡ getD p i 0 = loaded ∙ ap (λ (k : ℕ). le (take 8 (drop k m))) place ∙ ap (λ (l : List ℕ). le (take 8 l)) (sym (drop-drop (8 * i) at m)) ∙ sym (lane-at 17 (drop at m) i few) in
+    (s b : List ℕ) {i i′ next w : ℕ} → i < 17 → i′ ≡ suc i → next ≡ 8 * i → 17 ≤ length s → w ≡ le (take 8 (drop next b)) →
+    set (mixed s (take i (lanes 17 b))) i (bitXor (getD (mixed s (take i (lanes 17 b))) i 0) w) ≡ mixed s (take i′ (lanes 17 b))
+mixed-lane s b {i} {i′} {next} {w} few more place long loaded =
+    let p : List ℕ = lanes 17 b in
+    let n : length p ≡ 17 = length-lanes 17 b in
+    let e : w ≡ getD p i 0 = loaded ∙ ap (λ (k : ℕ). le (take 8 (drop k b))) place ∙ sym (lane-at 17 b i few) in
     rw (more, e) (mixed-more i s p (omega arith) (omega arith))
 
--- and all of them
-pub mixed-lanes : (s m : List ℕ) (at i : ℕ) → i ≡ 17 → mixed s (take i (lanes 17 (drop at m))) ≡ mixed s (lanes 17 (drop at m))
-mixed-lanes s m at i e = mixed-all s (lanes 17 (drop at m)) i (e ∙ sym (length-lanes 17 (drop at m)))
+-- and all of them: the block is a part of the message
+pub mixed-lanes :
+    (s m : List ℕ) (at i : ℕ) → i ≡ 17 → at + 136 ≤ length m →
+    mixed s (take i (lanes 17 (take 136 (drop at m)))) ≡ mixed s (lanes 17 (drop at m))
+mixed-lanes s m at i e h =
+    let b : List ℕ = take 136 (drop at m) in
+    let n : length b ≡ 136 = part-long m at 136 h in
+    mixed-all s (lanes 17 b) i (e ∙ sym (length-lanes 17 b))
+    ∙ ap (mixed s) (sym (lanes-append 17 b (drop 136 (drop at m)) (omega arith)) ∙ ap (lanes 17) (take-append-drop 136 (drop at m)))
 
 -- the blocks that are left at a place of the message
 abbrev pub left : List ℕ → ℕ → ℕ

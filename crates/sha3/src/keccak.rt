@@ -30,10 +30,9 @@ const RC: [u64; 24] = [
     0x8000000080008008,
 ];
 
-// One round with its constant: the parities c and what they add, d (theta); each lane t turned and moved to its place, b (rho, pi); and the rows of b (chi, iota).
-// Straight-line, so that the lanes stay in registers.
-fn round(a: [u64; 25], rc: u64) -> [u64; 25]
-    ensures { λ r. ⌜ r ≡ constantAdded rc (chi (pi (rho (theta a)))) ⌝ }
+// Theta: the parities c of the columns, and what they add to each lane, d. This step and the next two are straight-line, so that the lanes stay in registers.
+fn theta(a: [u64; 25]) -> [u64; 25]
+    ensures { λ r. ⌜ r ≡ theta a ⌝ }
 {
     let a0 = a[0];
     let a1 = a[1];
@@ -70,56 +69,121 @@ fn round(a: [u64; 25], rc: u64) -> [u64; 25]
     let d2 = c1 ^ (c3 << 1 | c3 >> 63);
     let d3 = c2 ^ (c4 << 1 | c4 >> 63);
     let d4 = c3 ^ (c0 << 1 | c0 >> 63);
-    let t0 = a0 ^ d0;
-    let b0 = t0;
-    let t6 = a6 ^ d1;
-    let b1 = t6 << 44 | t6 >> 20;
-    let t12 = a12 ^ d2;
-    let b2 = t12 << 43 | t12 >> 21;
-    let t18 = a18 ^ d3;
-    let b3 = t18 << 21 | t18 >> 43;
-    let t24 = a24 ^ d4;
-    let b4 = t24 << 14 | t24 >> 50;
-    let t3 = a3 ^ d3;
-    let b5 = t3 << 28 | t3 >> 36;
-    let t9 = a9 ^ d4;
-    let b6 = t9 << 20 | t9 >> 44;
-    let t10 = a10 ^ d0;
-    let b7 = t10 << 3 | t10 >> 61;
-    let t16 = a16 ^ d1;
-    let b8 = t16 << 45 | t16 >> 19;
-    let t22 = a22 ^ d2;
-    let b9 = t22 << 61 | t22 >> 3;
-    let t1 = a1 ^ d1;
-    let b10 = t1 << 1 | t1 >> 63;
-    let t7 = a7 ^ d2;
-    let b11 = t7 << 6 | t7 >> 58;
-    let t13 = a13 ^ d3;
-    let b12 = t13 << 25 | t13 >> 39;
-    let t19 = a19 ^ d4;
-    let b13 = t19 << 8 | t19 >> 56;
-    let t20 = a20 ^ d0;
-    let b14 = t20 << 18 | t20 >> 46;
-    let t4 = a4 ^ d4;
-    let b15 = t4 << 27 | t4 >> 37;
-    let t5 = a5 ^ d0;
-    let b16 = t5 << 36 | t5 >> 28;
-    let t11 = a11 ^ d1;
-    let b17 = t11 << 10 | t11 >> 54;
-    let t17 = a17 ^ d2;
-    let b18 = t17 << 15 | t17 >> 49;
-    let t23 = a23 ^ d3;
-    let b19 = t23 << 56 | t23 >> 8;
-    let t2 = a2 ^ d2;
-    let b20 = t2 << 62 | t2 >> 2;
-    let t8 = a8 ^ d3;
-    let b21 = t8 << 55 | t8 >> 9;
-    let t14 = a14 ^ d4;
-    let b22 = t14 << 39 | t14 >> 25;
-    let t15 = a15 ^ d0;
-    let b23 = t15 << 41 | t15 >> 23;
-    let t21 = a21 ^ d1;
-    let b24 = t21 << 2 | t21 >> 62;
+    [
+        a0 ^ d0,
+        a1 ^ d1,
+        a2 ^ d2,
+        a3 ^ d3,
+        a4 ^ d4,
+        a5 ^ d0,
+        a6 ^ d1,
+        a7 ^ d2,
+        a8 ^ d3,
+        a9 ^ d4,
+        a10 ^ d0,
+        a11 ^ d1,
+        a12 ^ d2,
+        a13 ^ d3,
+        a14 ^ d4,
+        a15 ^ d0,
+        a16 ^ d1,
+        a17 ^ d2,
+        a18 ^ d3,
+        a19 ^ d4,
+        a20 ^ d0,
+        a21 ^ d1,
+        a22 ^ d2,
+        a23 ^ d3,
+        a24 ^ d4,
+    ]
+}
+
+// Rho and pi: each lane turned by its number of places, and moved to its place.
+fn rho_pi(a: [u64; 25]) -> [u64; 25]
+    ensures { λ r. ⌜ r ≡ pi (rho a) ⌝ }
+{
+    let a6 = a[6];
+    let a12 = a[12];
+    let a18 = a[18];
+    let a24 = a[24];
+    let a3 = a[3];
+    let a9 = a[9];
+    let a10 = a[10];
+    let a16 = a[16];
+    let a22 = a[22];
+    let a1 = a[1];
+    let a7 = a[7];
+    let a13 = a[13];
+    let a19 = a[19];
+    let a20 = a[20];
+    let a4 = a[4];
+    let a5 = a[5];
+    let a11 = a[11];
+    let a17 = a[17];
+    let a23 = a[23];
+    let a2 = a[2];
+    let a8 = a[8];
+    let a14 = a[14];
+    let a15 = a[15];
+    let a21 = a[21];
+    [
+        a[0],
+        a6 << 44 | a6 >> 20,
+        a12 << 43 | a12 >> 21,
+        a18 << 21 | a18 >> 43,
+        a24 << 14 | a24 >> 50,
+        a3 << 28 | a3 >> 36,
+        a9 << 20 | a9 >> 44,
+        a10 << 3 | a10 >> 61,
+        a16 << 45 | a16 >> 19,
+        a22 << 61 | a22 >> 3,
+        a1 << 1 | a1 >> 63,
+        a7 << 6 | a7 >> 58,
+        a13 << 25 | a13 >> 39,
+        a19 << 8 | a19 >> 56,
+        a20 << 18 | a20 >> 46,
+        a4 << 27 | a4 >> 37,
+        a5 << 36 | a5 >> 28,
+        a11 << 10 | a11 >> 54,
+        a17 << 15 | a17 >> 49,
+        a23 << 56 | a23 >> 8,
+        a2 << 62 | a2 >> 2,
+        a8 << 55 | a8 >> 9,
+        a14 << 39 | a14 >> 25,
+        a15 << 41 | a15 >> 23,
+        a21 << 2 | a21 >> 62,
+    ]
+}
+
+// Chi and iota: each row of five lanes, and the round's constant in the first lane.
+fn chi_iota(a: [u64; 25], rc: u64) -> [u64; 25]
+    ensures { λ r. ⌜ r ≡ constantAdded rc (chi a) ⌝ }
+{
+    let b0 = a[0];
+    let b1 = a[1];
+    let b2 = a[2];
+    let b3 = a[3];
+    let b4 = a[4];
+    let b5 = a[5];
+    let b6 = a[6];
+    let b7 = a[7];
+    let b8 = a[8];
+    let b9 = a[9];
+    let b10 = a[10];
+    let b11 = a[11];
+    let b12 = a[12];
+    let b13 = a[13];
+    let b14 = a[14];
+    let b15 = a[15];
+    let b16 = a[16];
+    let b17 = a[17];
+    let b18 = a[18];
+    let b19 = a[19];
+    let b20 = a[20];
+    let b21 = a[21];
+    let b22 = a[22];
+    let b23 = a[23];
+    let b24 = a[24];
     [
         b0 ^ (!b1 & b2) ^ rc,
         b1 ^ (!b2 & b3),
@@ -147,6 +211,13 @@ fn round(a: [u64; 25], rc: u64) -> [u64; 25]
         b23 ^ (!b24 & b20),
         b24 ^ (!b20 & b21),
     ]
+}
+
+// One round with its constant.
+fn round(a: [u64; 25], rc: u64) -> [u64; 25]
+    ensures { λ r. ⌜ r ≡ constantAdded rc (chi (pi (rho (theta a)))) ⌝ }
+{
+    chi_iota(rho_pi(theta(a)), rc)
 }
 
 // All 24 rounds. The table is bound before the loop, so that it is not laid out anew for each round.

@@ -4,5 +4,6 @@ pub mod Over
 pub mod Laid
 pub mod Lanes
 pub mod Table
+pub mod Entries
 pub mod Sameness
 pub mod One

@@ -69,66 +69,10 @@ pub fn put_bytes(d: &mut [u8], at: usize, s: &[u8]) -> bool
 pub fn words_bytes(a: u64, b: u64, c: u64, d: u64) -> [u8; 32]
     ensures { λ r. ⌜ r ≡ bytes 8 a ++ bytes 8 b ++ bytes 8 c ++ bytes 8 d ⌝ }
 {
-    let a1 = a / 256;
-    let a2 = a1 / 256;
-    let a3 = a2 / 256;
-    let a4 = a3 / 256;
-    let a5 = a4 / 256;
-    let a6 = a5 / 256;
-    let a7 = a6 / 256;
-    let b1 = b / 256;
-    let b2 = b1 / 256;
-    let b3 = b2 / 256;
-    let b4 = b3 / 256;
-    let b5 = b4 / 256;
-    let b6 = b5 / 256;
-    let b7 = b6 / 256;
-    let c1 = c / 256;
-    let c2 = c1 / 256;
-    let c3 = c2 / 256;
-    let c4 = c3 / 256;
-    let c5 = c4 / 256;
-    let c6 = c5 / 256;
-    let c7 = c6 / 256;
-    let d1 = d / 256;
-    let d2 = d1 / 256;
-    let d3 = d2 / 256;
-    let d4 = d3 / 256;
-    let d5 = d4 / 256;
-    let d6 = d5 / 256;
-    let d7 = d6 / 256;
-    [
-        (a % 256) as u8,
-        (a1 % 256) as u8,
-        (a2 % 256) as u8,
-        (a3 % 256) as u8,
-        (a4 % 256) as u8,
-        (a5 % 256) as u8,
-        (a6 % 256) as u8,
-        (a7 % 256) as u8,
-        (b % 256) as u8,
-        (b1 % 256) as u8,
-        (b2 % 256) as u8,
-        (b3 % 256) as u8,
-        (b4 % 256) as u8,
-        (b5 % 256) as u8,
-        (b6 % 256) as u8,
-        (b7 % 256) as u8,
-        (c % 256) as u8,
-        (c1 % 256) as u8,
-        (c2 % 256) as u8,
-        (c3 % 256) as u8,
-        (c4 % 256) as u8,
-        (c5 % 256) as u8,
-        (c6 % 256) as u8,
-        (c7 % 256) as u8,
-        (d % 256) as u8,
-        (d1 % 256) as u8,
-        (d2 % 256) as u8,
-        (d3 % 256) as u8,
-        (d4 % 256) as u8,
-        (d5 % 256) as u8,
-        (d6 % 256) as u8,
-        (d7 % 256) as u8,
-    ]
+    let mut out = [0u8; 32];
+    store_le(&mut out, 0, 8, a);
+    store_le(&mut out, 8, 8, b);
+    store_le(&mut out, 16, 8, c);
+    store_le(&mut out, 24, 8, d);
+    out
 }
