@@ -137,7 +137,8 @@ fn mismatch(input: usize, k: usize) -> Refusal
     Refusal::StartHeightMismatch { input }
 }
 
-// Item 0, the name hash, and item 1, the start height: the Rust's `require_name_and_start_match`.
+// Item 0, the name hash, and item 1, the start height: the Rust's `require_name_and_start_match`. The loops stand one in the other and are left by a
+// label: document 01 asks for this form, "Where each form belongs".
 fn name_and_start(tx: &[u8], coins: &[u8], input: usize, spent: Place, made: Place) -> Step
     requires { ⌜ Standing (now coins) spent × Standing (now tx) made ⌝ }
     ensures { λ r. ⌜ stepPaper r ≡ nameAndStart input (outputOf (now (coins .entry)) spent .items) (outputOf (now (tx .entry)) made .items) ⌝ }

@@ -190,7 +190,8 @@ fn remaining(outputs: usize, i: usize) -> usize
 }
 
 // The inputs in order, each fully before the next: a head has 4 bytes, an outpoint 36. The first rule broken anywhere ends it. The outpoints are
-// compared where they stand, by words: four for the hash, and one whose last half is the index.
+// compared where they stand, by words: four for the hash, and one whose last half is the index. The loops stand one in the other and are left by a label:
+// document 01 asks for this form, "Where each form belongs".
 pub(crate) fn walk(tx: &[u8], coins: &[u8], n: usize, outputs: usize) -> Verified
     requires { ⌜ Sheets (now tx) (now coins) n outputs n ⌝ }
     ensures { λ r. ⌜ verifiedPaper r ≡ told (linksFrom 0 0 0 (inputsIn (now (tx .entry)) n) (coinsIn (now (coins .entry)) n) (outputsIn (now (tx .entry)) outputs (4 + n * 36))) ⌝ }

@@ -42,6 +42,12 @@ beside-stored s b g at = go (finishAt s at) (eqb (binding g) 0) (eqb (bitmap g) 
     go (ok u p) false y = refl
     go (err k vs p) x y = refl
 
+-- the answers of a judgement, told without the state
+pub past-picks : (x y : Bool) (t : State) (k p : ℕ) → pick x (pick y (ok tt p) (err 8 [] p)) (err k [] p) ≡ past (pick x (pick y (ok t p) (err 8 [] p)) (err k [] p))
+past-picks true true t k p = refl
+past-picks true false t k p = refl
+past-picks false y t k p = refl
+
 -- the judgement of what was stored
 judged-stored : (s : List ℕ) (b : ℕ) (g : State) (at : ℕ) {n : NameState} {d : Outcome Unit × NameState} → n ≡ stored g → length (g .name) ≤ 63 → length (g .resource) ≤ 512
     → d ≡ beside (judgedBits s (b, stateOf n) at) n → d ≡ shownState (judgedBits s (b, g) at)

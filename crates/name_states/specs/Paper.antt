@@ -17,7 +17,6 @@ use Rattle.name_states.specs.declared.read.Numbers.{Numbers}
 use Rattle.name_states.specs.declared.read.ReadNumbers.{ReadNumbers}
 use Rattle.name_states.specs.declared.read.Amounts.{Amounts}
 use Rattle.name_states.specs.declared.read.ReadAmounts.{ReadAmounts}
-use Rattle.name_states.specs.declared.read.ReadHeld.{ReadHeld}
 use Rattle.name_states.specs.declared.read.Times.{Times}
 use Rattle.name_states.specs.declared.read.ReadTimes.{ReadTimes}
 use Rattle.name_states.specs.declared.decode.Decoded.{Decoded}
@@ -67,9 +66,6 @@ amountsOf a = (a .value, a .highest)
 abbrev pub amountsPaper : ReadAmounts → Outcome (ℕ × ℕ)
 amountsPaper (ReadAmounts.Value a next) = ok (amountsOf a) (next .position)
 amountsPaper (ReadAmounts.Refused s) = stopped s
-
-abbrev pub heldPaper : ReadHeld → Outcome (Outpoint × (ℕ × ℕ))
-heldPaper h = then (amountsPaper (h .read)) (λ amounts p. ok (h .owner, amounts) p)
 
 abbrev pub timesOf : Times → ℕ × ℕ × ℕ × ℕ
 timesOf t = (t .transfer, t .revoked, t .claimed, t .renewals)

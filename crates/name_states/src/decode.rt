@@ -7,8 +7,9 @@ use crate::read::ReadTexts;
 use crate::read::ReadTimes;
 use crate::read::Texts;
 use crate::read::Times;
-use crate::read::read_held;
+use crate::read::read_amounts;
 use crate::read::read_numbers;
+use crate::read::read_owner;
 use crate::read::read_texts;
 use crate::read::read_times;
 use encoding::read::Cursor;
@@ -19,18 +20,21 @@ use primitives::Dollarydoos;
 use primitives::Height;
 use primitives::NameHash;
 use primitives::Outpoint;
-use primitives::TransactionHash;
 use refusal::Refusal;
 use refusal::Stop;
 use words::store::put_bytes;
 ghost use mathlib.Core.Path.{_≡_};
 ghost use Prim.Native.Nat.{ℕ, _+_, _≤_};
 ghost use lib.ListN.{length};
-ghost use Rattle.refusal.specs.Outcome.{then, past};
+ghost use mathlib.Core.List.{[], _∷_};
+ghost use lib.Dec.{eqb};
+ghost use Rattle.words.specs.Buffers.{pick};
+ghost use Rattle.refusal.specs.Outcome.{ok, err, then, past};
+ghost use Rattle.refusal.specs.Paper.{numberOf, carried};
 ghost use Rattle.encoding.specs.declared.read.Moved.{Moved};
 ghost use Rattle.encoding.specs.Paper.{movedPaper};
-ghost use Rattle.name_state.specs.Paper.{stateOf, stored};
-ghost use Rattle.name_states.specs.Read.{gathered, optionalAt, judgedBits, readState};
+ghost use Rattle.name_state.specs.Paper.{stateOf, stored, boundPaper};
+ghost use Rattle.name_states.specs.Read.{numbersAt, amountsAt, timesAt, gathered, optionalAt, judgedBits, readState};
 ghost use Rattle.name_states.specs.Paper.{decodedPaper, zeros, shownState, textsOf, numbersOf, amountsOf, timesOf};
 
 // Whether the bytes are a state's record, and the state; zeros where refused.
@@ -42,30 +46,11 @@ pub struct Decoded {
 fn refused(stop: Stop) -> Decoded
     ensures { λ d. ⌜ (d .read ≡ Moved.Refused stop) × (d .state ≡ zeros) ⌝ }
 {
+    let mut state = NameState::null(NameHash([0u8; 32]));
+    state.owner.index = 0;
     Decoded {
         read: Moved::Refused(stop),
-        state: NameState {
-            name_hash: NameHash([0u8; 32]),
-            name: [0u8; 63],
-            name_length: 0,
-            resource_data: [0u8; 512],
-            resource_length: 0,
-            height: Height(0),
-            renewal: Height(0),
-            owner: Outpoint {
-                transaction_hash: TransactionHash([0u8; 32]),
-                index: 0,
-            },
-            value: Dollarydoos(0),
-            highest: Dollarydoos(0),
-            transfer: Height(0),
-            revoked: Height(0),
-            claimed: Height(0),
-            renewals: 0,
-            registered: false,
-            expired: false,
-            weak: false,
-        },
+        state,
     }
 }
 
@@ -112,31 +97,119 @@ fn build(
     }
 }
 
+// Refused where the record ends.
+fn refused_at(refusal: Refusal, end: Cursor) -> Moved
+    ensures { λ r. ⌜ movedPaper r ≡ err (numberOf refusal) (carried refusal) (end .position) ⌝ }
+{
+    Moved::Refused(Stop {
+        refusal,
+        position: end.position,
+    })
+}
+
+// The name and its key, then the bitmap.
+fn bound(binding: Binding, canonical: bool, end: Cursor) -> Moved
+    ensures { λ r. ⌜ movedPaper r ≡ pick (eqb (boundPaper binding) 0) (pick canonical (ok tt (end .position)) (err 8 [] (end .position))) (err (boundPaper binding) [] (end .position)) ⌝ }
+{
+    match binding {
+        Binding::Bound => {
+            if canonical {
+                return Moved::To(end);
+            }
+            return refused_at(Refusal::NonCanonicalNameState, end);
+        }
+        Binding::NoName => {
+            return refused_at(Refusal::InvalidName, end);
+        }
+        Binding::OtherKey => {
+            return refused_at(Refusal::NameStateHashMismatch, end);
+        }
+    }
+}
+
 // What is judged at the end: trailing bytes, the name and its key, the bitmap.
 fn judge(s: &[u8], bits: u16, state: NameState, c: Cursor) -> Moved
     ensures { λ r. ⌜ movedPaper r ≡ past (judgedBits (now (s .entry)) (bits, stateOf state) (c .position)) ⌝ }
 {
-    match c.finish(s) {
-        Moved::To(end) => match state.validate_key_binding() {
-            Binding::Bound => {
-                if state.bitmap() != bits {
-                    return Moved::Refused(Stop {
-                        refusal: Refusal::NonCanonicalNameState,
-                        position: end.position,
-                    });
-                }
-                Moved::To(end)
-            }
-            Binding::NoName => Moved::Refused(Stop {
-                refusal: Refusal::InvalidName,
-                position: end.position,
-            }),
-            Binding::OtherKey => Moved::Refused(Stop {
-                refusal: Refusal::NameStateHashMismatch,
-                position: end.position,
-            }),
-        },
-        Moved::Refused(stop) => Moved::Refused(stop),
+    let finished = c.finish(s);
+    match finished {
+        Moved::To(end) => {
+            return bound(state.validate_key_binding(), state.bitmap() == bits, end);
+        }
+        Moved::Refused(_) => {
+            return finished;
+        }
+    }
+}
+
+// The state of all fields, and the judgement.
+fn gather(
+    key: NameHash,
+    s: &[u8],
+    texts: Texts,
+    numbers: Numbers,
+    owner: Outpoint,
+    amounts: Amounts,
+    times: Times,
+    c: Cursor,
+) -> Decoded
+    requires { ⌜ (texts .«name_length» ≤ 63) × (texts .«resource_length» ≤ 512) × (texts .«name_at» + texts .«name_length» ≤ length (now s)) × (texts .«resource_at» + texts .«resource_length» ≤ length (now s)) ⌝ }
+    ensures { λ d. ⌜ decodedPaper d ≡ shownState (judgedBits (now (s .entry)) (numbers .bits, gathered (key .0) (now (s .entry)) (textsOf texts) (numbersOf numbers) (owner, amountsOf amounts) (timesOf times)) (c .position)) ⌝ }
+{
+    let state = build(key, s, texts, numbers, owner, amounts, times);
+    let read = judge(s, numbers.bits, state, c);
+    match read {
+        Moved::To(_) => {
+            return Decoded { read, state };
+        }
+        Moved::Refused(stop) => {
+            return refused(stop);
+        }
+    }
+}
+
+// The times, and the judgement.
+fn read_from_times(
+    key: NameHash,
+    s: &[u8],
+    texts: Texts,
+    numbers: Numbers,
+    owner: Outpoint,
+    amounts: Amounts,
+    c: Cursor,
+) -> Decoded
+    requires { ⌜ (texts .«name_length» ≤ 63) × (texts .«resource_length» ≤ 512) × (texts .«name_at» + texts .«name_length» ≤ length (now s)) × (texts .«resource_at» + texts .«resource_length» ≤ length (now s)) ⌝ }
+    ensures { λ d. ⌜ decodedPaper d ≡ shownState (then (then (timesAt (numbers .bits) (now (s .entry)) (c .position)) (λ times end. ok (numbers .bits, gathered (key .0) (now (s .entry)) (textsOf texts) (numbersOf numbers) (owner, amountsOf amounts) times) end)) (judgedBits (now (s .entry)))) ⌝ }
+{
+    match read_times(s, c, numbers.bits) {
+        ReadTimes::Value(times, end) => {
+            return gather(key, s, texts, numbers, owner, amounts, times, end);
+        }
+        ReadTimes::Refused(stop) => {
+            return refused(stop);
+        }
+    }
+}
+
+// The amounts, and what comes after them.
+fn read_from_amounts(
+    key: NameHash,
+    s: &[u8],
+    texts: Texts,
+    numbers: Numbers,
+    owner: Outpoint,
+    c: Cursor,
+) -> Decoded
+    requires { ⌜ (texts .«name_length» ≤ 63) × (texts .«resource_length» ≤ 512) × (texts .«name_at» + texts .«name_length» ≤ length (now s)) × (texts .«resource_at» + texts .«resource_length» ≤ length (now s)) ⌝ }
+    ensures { λ d. ⌜ decodedPaper d ≡ shownState (then (then (then (amountsAt (numbers .bits) (now (s .entry)) (c .position)) (λ amounts next. ok (owner, amounts) next)) (λ held next. then (timesAt (numbers .bits) (now (s .entry)) next) (λ times end. ok (numbers .bits, gathered (key .0) (now (s .entry)) (textsOf texts) (numbersOf numbers) held times) end))) (judgedBits (now (s .entry)))) ⌝ }
+{
+    match read_amounts(s, c, numbers.bits) {
+        ReadAmounts::Value(amounts, next) => {
+            return read_from_times(key, s, texts, numbers, owner, amounts, next);
+        }
+        ReadAmounts::Refused(stop) => {
+            return refused(stop);
+        }
     }
 }
 
@@ -145,26 +218,45 @@ fn optional(key: NameHash, s: &[u8], texts: Texts, numbers: Numbers, c: Cursor) 
     requires { ⌜ (texts .«name_length» ≤ 63) × (texts .«resource_length» ≤ 512) × (texts .«name_at» + texts .«name_length» ≤ length (now s)) × (texts .«resource_at» + texts .«resource_length» ≤ length (now s)) ⌝ }
     ensures { λ d. ⌜ decodedPaper d ≡ shownState (then (optionalAt (key .0) (now (s .entry)) (textsOf texts) (numbersOf numbers) (c .position)) (judgedBits (now (s .entry)))) ⌝ }
 {
-    let bits = numbers.bits;
-    let held = read_held(s, c, bits);
-    let owner = held.owner;
-    let read = held.read;
-    match read {
-        ReadAmounts::Value(amounts, next) => match read_times(s, next, bits) {
-            ReadTimes::Value(times, end) => {
-                let state = build(key, s, texts, numbers, owner, amounts, times);
-                match judge(s, bits, state, end) {
-                    Moved::To(last) => Decoded {
-                        read: Moved::To(last),
-                        state,
-                    },
-                    Moved::Refused(why) => refused(why),
-                }
-            }
-            ReadTimes::Refused(stop) => refused(stop),
-        },
-        ReadAmounts::Refused(stop) => refused(stop),
+    let found = read_owner(s, c, numbers.bits);
+    let moved = found.moved;
+    match moved {
+        Moved::To(next) => {
+            return read_from_amounts(key, s, texts, numbers, found.outpoint, next);
+        }
+        Moved::Refused(stop) => {
+            return refused(stop);
+        }
     }
+}
+
+// The numbers, and what comes after them.
+fn read_from_numbers(key: NameHash, s: &[u8], texts: Texts, c: Cursor) -> Decoded
+    requires { ⌜ (texts .«name_length» ≤ 63) × (texts .«resource_length» ≤ 512) × (texts .«name_at» + texts .«name_length» ≤ length (now s)) × (texts .«resource_at» + texts .«resource_length» ≤ length (now s)) ⌝ }
+    ensures { λ d. ⌜ decodedPaper d ≡ shownState (then (then (numbersAt (now (s .entry)) (c .position)) (λ numbers end. optionalAt (key .0) (now (s .entry)) (textsOf texts) numbers end)) (judgedBits (now (s .entry)))) ⌝ }
+{
+    match read_numbers(s, c) {
+        ReadNumbers::Value(numbers, end) => {
+            return optional(key, s, texts, numbers, end);
+        }
+        ReadNumbers::Refused(stop) => {
+            return refused(stop);
+        }
+    }
+}
+
+// A record above 668 bytes is not read.
+fn too_large(actual: usize) -> Decoded
+    ensures { λ d. ⌜ decodedPaper d ≡ (err 5 (actual ∷ 668 ∷ []) 0, zeros) ⌝ }
+{
+    let refusal = Refusal::TooLarge {
+        actual,
+        maximum: NameState::MAX_SIZE,
+    };
+    refused(Stop {
+        refusal,
+        position: 0,
+    })
 }
 
 // The state of a record under its key; its name is hashed once.
@@ -172,19 +264,14 @@ pub fn decode(key: NameHash, s: &[u8]) -> Decoded
     ensures { λ d. ⌜ decodedPaper d ≡ shownState (readState (key .0) (now (s .entry))) ⌝ }
 {
     if NameState::MAX_SIZE < s.len() {
-        return refused(Stop {
-            refusal: Refusal::TooLarge {
-                actual: s.len(),
-                maximum: NameState::MAX_SIZE,
-            },
-            position: 0,
-        });
+        return too_large(s.len());
     }
     match read_texts(s, Cursor { position: 0 }) {
-        ReadTexts::Value(texts, next) => match read_numbers(s, next) {
-            ReadNumbers::Value(numbers, end) => optional(key, s, texts, numbers, end),
-            ReadNumbers::Refused(stop) => refused(stop),
-        },
-        ReadTexts::Refused(stop) => refused(stop),
+        ReadTexts::Value(texts, next) => {
+            return read_from_numbers(key, s, texts, next);
+        }
+        ReadTexts::Refused(stop) => {
+            return refused(stop);
+        }
     }
 }

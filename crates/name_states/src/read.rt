@@ -13,13 +13,17 @@ use primitives::TransactionHash;
 use refusal::Refusal;
 use refusal::Stop;
 ghost use mathlib.Core.Path.{_≡_};
-ghost use Rattle.refusal.specs.Outcome.{then};
+ghost use lib.Dec.{eqb};
+ghost use Prim.Native.Nat.{_%_};
+ghost use Rattle.refusal.specs.Outcome.{then, ok};
+ghost use Rattle.refusal.specs.declared.Refusal.{Refusal};
 ghost use Rattle.encoding.specs.declared.read.Moved.{Moved};
 ghost use Rattle.encoding.specs.Wire.{fixedAt, compactAt, sliceAt};
 ghost use Rattle.encoding.specs.Paper.{spanPaper, u16Paper, u32Paper, u64Paper};
-ghost use Rattle.primitives.specs.Outpoints.{nullOutpoint};
-ghost use Rattle.name_states.specs.Read.{upTo, textAt, textsAt, numbersAt, present, ownerAt, amountAt, amountsAt, heldAt, timesAt};
-ghost use Rattle.name_states.specs.Paper.{textsPaper, numbersPaper, ownerPaper, amountsPaper, heldPaper, timesPaper};
+ghost use Rattle.primitives.specs.Outpoints.{outpoint, nullOutpoint};
+ghost use Rattle.name_states.specs.Read.{upTo, textAt, textsAt, numbersAt, present, ownerAt, amountAt, amountsAt, timesAt};
+ghost use Rattle.name_states.specs.Written.{has};
+ghost use Rattle.name_states.specs.Paper.{textsPaper, numbersPaper, ownerPaper, amountsPaper, timesPaper};
 
 // Where the name and the resource stand.
 pub struct Texts {
@@ -55,12 +59,6 @@ pub enum ReadAmounts {
     Refused(Stop),
 }
 
-// Value and highest, and the owner beside them.
-pub struct ReadHeld {
-    pub read: ReadAmounts,
-    pub owner: Outpoint,
-}
-
 pub struct Times {
     pub transfer: u32,
     pub revoked: u32,
@@ -73,6 +71,16 @@ pub enum ReadTimes {
     Refused(Stop),
 }
 
+// A number that was read and is too large, for a reason.
+fn invalid(reason: u8, next: Cursor) -> Stop
+    ensures { λ r. ⌜ (r .refusal ≡ Refusal.InvalidNameState reason) × (r .position ≡ next .position) ⌝ }
+{
+    Stop {
+        refusal: Refusal::InvalidNameState { reason },
+        position: next.position,
+    }
+}
+
 // At most a maximum, or refused for a reason.
 fn at_most(read: ReadU64, maximum: u64, reason: u8) -> ReadU64
     ensures { λ r. ⌜ u64Paper r ≡ then (u64Paper read) (upTo maximum reason) ⌝ }
@@ -80,15 +88,13 @@ fn at_most(read: ReadU64, maximum: u64, reason: u8) -> ReadU64
     match read {
         ReadU64::Value(v, next) => {
             if maximum < v {
-                ReadU64::Refused(Stop {
-                    refusal: Refusal::InvalidNameState { reason },
-                    position: next.position,
-                })
-            } else {
-                ReadU64::Value(v, next)
+                return ReadU64::Refused(invalid(reason, next));
             }
+            return read;
         }
-        ReadU64::Refused(stop) => ReadU64::Refused(stop),
+        ReadU64::Refused(_) => {
+            return read;
+        }
     }
 }
 
@@ -97,10 +103,7 @@ fn read_body(s: &[u8], next: Cursor, n: usize, maximum: usize, reason: u8) -> Re
     ensures { λ r. ⌜ spanPaper r ≡ then (upTo maximum reason n (next .position)) (λ n at. sliceAt n (now (s .entry)) at) ⌝ }
 {
     if maximum < n {
-        return ReadSpan::Refused(Stop {
-            refusal: Refusal::InvalidNameState { reason },
-            position: next.position,
-        });
+        return ReadSpan::Refused(invalid(reason, next));
     }
     next.read_slice(s, n)
 }
@@ -109,8 +112,12 @@ fn read_name(s: &[u8], c: Cursor) -> ReadSpan
     ensures { λ r. ⌜ spanPaper r ≡ textAt 1 63 1 (now (s .entry)) (c .position) ⌝ }
 {
     match c.read_u8(s) {
-        ReadU8::Value(n, next) => read_body(s, next, n as usize, NameState::MAX_NAME_SIZE, 1),
-        ReadU8::Refused(stop) => ReadSpan::Refused(stop),
+        ReadU8::Value(n, next) => {
+            return read_body(s, next, n as usize, NameState::MAX_NAME_SIZE, 1);
+        }
+        ReadU8::Refused(stop) => {
+            return ReadSpan::Refused(stop);
+        }
     }
 }
 
@@ -118,8 +125,12 @@ fn read_resource(s: &[u8], c: Cursor) -> ReadSpan
     ensures { λ r. ⌜ spanPaper r ≡ textAt 2 512 2 (now (s .entry)) (c .position) ⌝ }
 {
     match c.read_u16_le(s) {
-        ReadU16::Value(n, next) => read_body(s, next, n as usize, NameState::MAX_RESOURCE_SIZE, 2),
-        ReadU16::Refused(stop) => ReadSpan::Refused(stop),
+        ReadU16::Value(n, next) => {
+            return read_body(s, next, n as usize, NameState::MAX_RESOURCE_SIZE, 2);
+        }
+        ReadU16::Refused(stop) => {
+            return ReadSpan::Refused(stop);
+        }
     }
 }
 
@@ -144,11 +155,15 @@ pub(crate) fn read_texts(s: &[u8], c: Cursor) -> ReadTexts
                     resource_at: b,
                     resource_length: m,
                 };
-                ReadTexts::Value(texts, end)
+                return ReadTexts::Value(texts, end);
             }
-            ReadSpan::Refused(stop) => ReadTexts::Refused(stop),
+            ReadSpan::Refused(stop) => {
+                return ReadTexts::Refused(stop);
+            }
         },
-        ReadSpan::Refused(stop) => ReadTexts::Refused(stop),
+        ReadSpan::Refused(stop) => {
+            return ReadTexts::Refused(stop);
+        }
     }
 }
 
@@ -156,18 +171,17 @@ pub(crate) fn read_texts(s: &[u8], c: Cursor) -> ReadTexts
 fn read_bits(s: &[u8], c: Cursor) -> ReadU16
     ensures { λ r. ⌜ u16Paper r ≡ then (fixedAt 2 (now (s .entry)) (c .position)) (upTo 1023 3) ⌝ }
 {
-    match c.read_u16_le(s) {
+    let read = c.read_u16_le(s);
+    match read {
         ReadU16::Value(b, next) => {
             if 1023 < b {
-                ReadU16::Refused(Stop {
-                    refusal: Refusal::InvalidNameState { reason: 3 },
-                    position: next.position,
-                })
-            } else {
-                ReadU16::Value(b, next)
+                return ReadU16::Refused(invalid(3, next));
             }
+            return read;
         }
-        ReadU16::Refused(stop) => ReadU16::Refused(stop),
+        ReadU16::Refused(_) => {
+            return read;
+        }
     }
 }
 
@@ -184,13 +198,19 @@ pub(crate) fn read_numbers(s: &[u8], c: Cursor) -> ReadNumbers
                         renewal,
                         bits,
                     };
-                    ReadNumbers::Value(numbers, end)
+                    return ReadNumbers::Value(numbers, end);
                 }
-                ReadU16::Refused(stop) => ReadNumbers::Refused(stop),
+                ReadU16::Refused(stop) => {
+                    return ReadNumbers::Refused(stop);
+                }
             },
-            ReadU32::Refused(stop) => ReadNumbers::Refused(stop),
+            ReadU32::Refused(stop) => {
+                return ReadNumbers::Refused(stop);
+            }
         },
-        ReadU32::Refused(stop) => ReadNumbers::Refused(stop),
+        ReadU32::Refused(stop) => {
+            return ReadNumbers::Refused(stop);
+        }
     }
 }
 
@@ -201,14 +221,13 @@ fn read_u32_compact(s: &[u8], c: Cursor, reason: u8) -> ReadU32
     match c.read_compact_size(s) {
         ReadU64::Value(v, next) => {
             if 4294967295 < v {
-                return ReadU32::Refused(Stop {
-                    refusal: Refusal::InvalidNameState { reason },
-                    position: next.position,
-                });
+                return ReadU32::Refused(invalid(reason, next));
             }
-            ReadU32::Value(v as u32, next)
+            return ReadU32::Value(v as u32, next);
         }
-        ReadU64::Refused(stop) => ReadU32::Refused(stop),
+        ReadU64::Refused(stop) => {
+            return ReadU32::Refused(stop);
+        }
     }
 }
 
@@ -221,6 +240,27 @@ fn refused(stop: Stop) -> ReadOutpoint
     }
 }
 
+// The index of an owner whose hash was read.
+fn read_index(s: &[u8], next: Cursor, hash: [u8; 32]) -> ReadOutpoint
+    ensures { λ r. ⌜ ownerPaper r ≡ then (then (compactAt (now (s .entry)) (next .position)) (upTo 4294967295 4)) (λ index end. ok (outpoint hash index) end) ⌝ }
+{
+    match read_u32_compact(s, next, 4) {
+        ReadU32::Value(index, end) => {
+            let outpoint = Outpoint {
+                transaction_hash: TransactionHash(hash),
+                index,
+            };
+            return ReadOutpoint {
+                moved: Moved::To(end),
+                outpoint,
+            };
+        }
+        ReadU32::Refused(stop) => {
+            return refused(stop);
+        }
+    }
+}
+
 fn read_present_owner(s: &[u8], c: Cursor) -> ReadOutpoint
     ensures { λ r. ⌜ ownerPaper r ≡ ownerAt (now (s .entry)) (c .position) ⌝ }
 {
@@ -229,26 +269,19 @@ fn read_present_owner(s: &[u8], c: Cursor) -> ReadOutpoint
     match moved {
         Moved::To(next) => {
             let bytes = hash.bytes;
-            match read_u32_compact(s, next, 4) {
-                ReadU32::Value(index, end) => ReadOutpoint {
-                    moved: Moved::To(end),
-                    outpoint: Outpoint {
-                        transaction_hash: TransactionHash(bytes),
-                        index,
-                    },
-                },
-                ReadU32::Refused(stop) => refused(stop),
-            }
+            return read_index(s, next, bytes);
         }
-        Moved::Refused(stop) => refused(stop),
+        Moved::Refused(stop) => {
+            return refused(stop);
+        }
     }
 }
 
-// The owner where the bit is set, else the null outpoint.
-fn read_owner(s: &[u8], c: Cursor, set: bool) -> ReadOutpoint
-    ensures { λ r. ⌜ ownerPaper r ≡ present set (ownerAt (now (s .entry)) (c .position)) nullOutpoint (c .position) ⌝ }
+// The owner where bit 0 is set, else the null outpoint.
+pub(crate) fn read_owner(s: &[u8], c: Cursor, bits: u16) -> ReadOutpoint
+    ensures { λ r. ⌜ ownerPaper r ≡ present (has 1 bits) (ownerAt (now (s .entry)) (c .position)) nullOutpoint (c .position) ⌝ }
 {
-    if !set {
+    if bits % 2 != 1 {
         return ReadOutpoint {
             moved: Moved::To(c),
             outpoint: Outpoint::NULL,
@@ -257,68 +290,53 @@ fn read_owner(s: &[u8], c: Cursor, set: bool) -> ReadOutpoint
     read_present_owner(s, c)
 }
 
-// An amount where the bit is set, else 0.
-fn read_amount(s: &[u8], c: Cursor, set: bool) -> ReadU64
-    ensures { λ r. ⌜ u64Paper r ≡ present set (amountAt (now (s .entry)) (c .position)) 0 (c .position) ⌝ }
+// An amount where the last bit is set, else 0.
+fn read_amount(s: &[u8], c: Cursor, bits: u16) -> ReadU64
+    ensures { λ r. ⌜ u64Paper r ≡ present (eqb (bits % 2) 1) (amountAt (now (s .entry)) (c .position)) 0 (c .position) ⌝ }
 {
-    if !set {
+    if bits % 2 != 1 {
         return ReadU64::Value(0, c);
     }
     at_most(c.read_compact_size(s), NameState::MAX_SAFE_INTEGER, 6)
 }
 
-// A height where the bit is set, else 0.
-fn read_time(s: &[u8], c: Cursor, set: bool) -> ReadU32
-    ensures { λ r. ⌜ u32Paper r ≡ present set (fixedAt 4 (now (s .entry)) (c .position)) 0 (c .position) ⌝ }
+// A height where the last bit is set, else 0.
+fn read_time(s: &[u8], c: Cursor, bits: u16) -> ReadU32
+    ensures { λ r. ⌜ u32Paper r ≡ present (eqb (bits % 2) 1) (fixedAt 4 (now (s .entry)) (c .position)) 0 (c .position) ⌝ }
 {
-    if !set {
+    if bits % 2 != 1 {
         return ReadU32::Value(0, c);
     }
     c.read_u32_le(s)
 }
 
-// The number of renewals where the bit is set, else 0.
-fn read_renewals(s: &[u8], c: Cursor, set: bool) -> ReadU32
-    ensures { λ r. ⌜ u32Paper r ≡ present set (then (compactAt (now (s .entry)) (c .position)) (upTo 4294967295 5)) 0 (c .position) ⌝ }
+// The number of renewals where the last bit is set, else 0.
+fn read_renewals(s: &[u8], c: Cursor, bits: u16) -> ReadU32
+    ensures { λ r. ⌜ u32Paper r ≡ present (eqb (bits % 2) 1) (then (compactAt (now (s .entry)) (c .position)) (upTo 4294967295 5)) 0 (c .position) ⌝ }
 {
-    if !set {
+    if bits % 2 != 1 {
         return ReadU32::Value(0, c);
     }
     read_u32_compact(s, c, 5)
 }
 
 // Value and highest.
-fn read_amounts(s: &[u8], c: Cursor, bits: u16) -> ReadAmounts
+pub(crate) fn read_amounts(s: &[u8], c: Cursor, bits: u16) -> ReadAmounts
     ensures { λ r. ⌜ amountsPaper r ≡ amountsAt bits (now (s .entry)) (c .position) ⌝ }
 {
-    match read_amount(s, c, bits / 2 % 2 == 1) {
-        ReadU64::Value(value, c1) => match read_amount(s, c1, bits / 4 % 2 == 1) {
+    match read_amount(s, c, bits / 2) {
+        ReadU64::Value(value, c1) => match read_amount(s, c1, bits / 4) {
             ReadU64::Value(highest, end) => {
                 let amounts = Amounts { value, highest };
-                ReadAmounts::Value(amounts, end)
+                return ReadAmounts::Value(amounts, end);
             }
-            ReadU64::Refused(stop) => ReadAmounts::Refused(stop),
+            ReadU64::Refused(stop) => {
+                return ReadAmounts::Refused(stop);
+            }
         },
-        ReadU64::Refused(stop) => ReadAmounts::Refused(stop),
-    }
-}
-
-// Owner, value and highest.
-pub(crate) fn read_held(s: &[u8], c: Cursor, bits: u16) -> ReadHeld
-    ensures { λ r. ⌜ heldPaper r ≡ heldAt bits (now (s .entry)) (c .position) ⌝ }
-{
-    let found = read_owner(s, c, bits / 1 % 2 == 1);
-    let owner = found.outpoint;
-    let moved = found.moved;
-    match moved {
-        Moved::To(next) => ReadHeld {
-            read: read_amounts(s, next, bits),
-            owner,
-        },
-        Moved::Refused(stop) => ReadHeld {
-            read: ReadAmounts::Refused(stop),
-            owner,
-        },
+        ReadU64::Refused(stop) => {
+            return ReadAmounts::Refused(stop);
+        }
     }
 }
 
@@ -326,10 +344,10 @@ pub(crate) fn read_held(s: &[u8], c: Cursor, bits: u16) -> ReadHeld
 pub(crate) fn read_times(s: &[u8], c: Cursor, bits: u16) -> ReadTimes
     ensures { λ r. ⌜ timesPaper r ≡ timesAt bits (now (s .entry)) (c .position) ⌝ }
 {
-    match read_time(s, c, bits / 8 % 2 == 1) {
-        ReadU32::Value(transfer, c1) => match read_time(s, c1, bits / 16 % 2 == 1) {
-            ReadU32::Value(revoked, c2) => match read_time(s, c2, bits / 32 % 2 == 1) {
-                ReadU32::Value(claimed, c3) => match read_renewals(s, c3, bits / 64 % 2 == 1) {
+    match read_time(s, c, bits / 8) {
+        ReadU32::Value(transfer, c1) => match read_time(s, c1, bits / 16) {
+            ReadU32::Value(revoked, c2) => match read_time(s, c2, bits / 32) {
+                ReadU32::Value(claimed, c3) => match read_renewals(s, c3, bits / 64) {
                     ReadU32::Value(renewals, end) => {
                         let times = Times {
                             transfer,
@@ -337,14 +355,22 @@ pub(crate) fn read_times(s: &[u8], c: Cursor, bits: u16) -> ReadTimes
                             claimed,
                             renewals,
                         };
-                        ReadTimes::Value(times, end)
+                        return ReadTimes::Value(times, end);
                     }
-                    ReadU32::Refused(stop) => ReadTimes::Refused(stop),
+                    ReadU32::Refused(stop) => {
+                        return ReadTimes::Refused(stop);
+                    }
                 },
-                ReadU32::Refused(stop) => ReadTimes::Refused(stop),
+                ReadU32::Refused(stop) => {
+                    return ReadTimes::Refused(stop);
+                }
             },
-            ReadU32::Refused(stop) => ReadTimes::Refused(stop),
+            ReadU32::Refused(stop) => {
+                return ReadTimes::Refused(stop);
+            }
         },
-        ReadU32::Refused(stop) => ReadTimes::Refused(stop),
+        ReadU32::Refused(stop) => {
+            return ReadTimes::Refused(stop);
+        }
     }
 }

@@ -11,55 +11,42 @@ use Rattle.name_states.proofs.decode.build.Reads as reads
 use Rattle.name_states.proofs.decode.build.Lts as lts
 use Rattle.words.proofs.store.put_bytes.Reads as put-bytes-reads
 
--- src/decode.rt:79:15
 slice-aggregate-put-bytes : tie.Need-slice-aggregate-put-bytes
 slice-aggregate-put-bytes c = search needs
 
--- src/decode.rt:79:35
 add-put-bytes : tie.Need-add-put-bytes
 add-put-bytes c = search needs
 
--- src/decode.rt:79:29
 sub-put-bytes : tie.Need-sub-put-bytes
 sub-put-bytes c = search needs
 
--- src/decode.rt:79:29
 part-put-bytes-start : tie.Need-part-put-bytes-start
 part-put-bytes-start c = search needs
 
--- src/decode.rt:79:29
 part-put-bytes-end : tie.Need-part-put-bytes-end
 part-put-bytes-end c = search needs
 
--- src/decode.rt:79:5
 put-bytes-requires : tie.Need-put-bytes-requires
 put-bytes-requires c κs = search needs
 
--- src/decode.rt:83:15
 slice-aggregate-put-bytes-2 : tie.Need-slice-aggregate-put-bytes-2
 slice-aggregate-put-bytes-2 c = search needs
 
--- src/decode.rt:83:39
 add-put-bytes-2 : tie.Need-add-put-bytes-2
 add-put-bytes-2 c = search needs
 
--- src/decode.rt:83:33
 sub-put-bytes-2 : tie.Need-sub-put-bytes-2
 sub-put-bytes-2 c = search needs
 
--- src/decode.rt:83:33
 part-put-bytes-start-2 : tie.Need-part-put-bytes-start-2
 part-put-bytes-start-2 c = search needs
 
--- src/decode.rt:83:33
 part-put-bytes-end-2 : tie.Need-part-put-bytes-end-2
 part-put-bytes-end-2 c = search needs
 
--- src/decode.rt:83:5
 put-bytes-requires-2 : tie.Need-put-bytes-requires-2
 put-bytes-requires-2 c κs = search needs
 
--- src/decode.rt:72:1
 returns : tie.Need-returns
 unfolding gathered
 returns c =

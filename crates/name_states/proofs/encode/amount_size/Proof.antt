@@ -9,15 +9,12 @@ use Rattle.name_states.proofs.encode.amount_size.Reads as reads
 use Rattle.name_states.proofs.encode.amount_size.Lts as lts
 use Rattle.encoding.proofs.put.compact_size_len.Reads as compact-size-len-reads
 
--- src/encode.rt:31:9
 returns : tie.Need-returns
 returns c = rw (no-amount _ (c .if1 .taken)) (refl, omega arith)
 
--- src/encode.rt:33:5
 compact-size-len-requires : tie.Need-compact-size-len-requires
 compact-size-len-requires c κs = search needs
 
--- src/encode.rt:27:1
 returns-2 : tie.Need-returns-2
 returns-2 c = (c .compact-size-len .ensures ∙ sym (amount-long _ (c .before .if1 .left)), omega (arith, c .compact-size-len .ensures, compact-size-most (c .before .before .args .v) .1))
 

@@ -1,7 +1,4 @@
 use borrow.Author.Needs.{needs}
-use native.Mathlib.Omega.{arith}
-use mathlib.Core.Path.{_≡_, refl, ap, sym, _∙_}
-use Rattle.words.specs.Buffers.{pick}
 use Rattle.name_states.proofs.encode.bound_size.Statement.{statement}
 use Rattle.name_states.proofs.encode.bound_size.Tie as tie
 use Rattle.name_states.proofs.encode.bound_size.Reads as reads

@@ -11,38 +11,30 @@ use Rattle.name_states.proofs.encode.encode.Lts as lts
 use Rattle.name_states.proofs.encode.encoded_size.Reads as encoded-size-reads
 use Rattle.name_states.proofs.encode.put_record.Reads as put-record-reads
 
--- src/encode.rt:216:11
 encoded-size-requires : tie.Need-encoded-size-requires
 encoded-size-requires c κs = search needs
 
--- src/encode.rt:217:22
 enum-known-n : tie.Need-enum-known-n
 enum-known-n c = search needs
 
--- src/encode.rt:219:17
 returns : tie.Need-returns
 returns c = encode-no-room _ _ (told putPaper (c .before .before .before .before .encoded-size .ensures) (c .before .before .n .given .1)) (c .if1 .taken)
 
--- src/encode.rt:221:13
 put-record-requires : tie.Need-put-record-requires
 put-record-requires c κs =
     let a = c .before .before .before .before .before .before .before .args .state in
     let p = passes _ (told putPaper (c .before .before .before .before .before .encoded-size .ensures) (c .before .before .before .n .given .1)) in
     (omega (arith, text-long (a .«name_length») (a .name), p .name), omega (arith, text-long (a .«resource_length») (a .«resource_data»), p .resource), omega (arith, p .size, c .before .if1 .left))
 
--- src/encode.rt:224:22
 enum-known-refusal : tie.Need-enum-known-refusal
 enum-known-refusal c = search needs
 
--- src/encode.rt:213:1
 same-length : tie.Need-same-length
 same-length c = search needs
 
--- src/encode.rt:213:1
 returns-2 : tie.Need-returns-2
 returns-2 c = encode-done _ _ (told putPaper (c .before .before .before .before .before .before .before .before .encoded-size .ensures) (c .before .before .before .before .before .before .n .given .1)) (c .before .before .before .before .if1 .left) (c .before .before .put-record .ensures)
 
--- src/encode.rt:213:1
 returns-3 : tie.Need-returns-3
 returns-3 c = encode-refused _ _ (told putPaper (c .before .before .before .encoded-size .ensures) (c .before .refusal .given .1))
 

@@ -1,6 +1,4 @@
 use borrow.Author.Needs.{needs}
-use native.Mathlib.Omega.{arith}
-use mathlib.Core.Path.{_≡_, refl, ap, sym, _∙_}
 use borrow.Author.Tests.{le-ltb, lt-ltb}
 use Rattle.name_state.proofs.Text.{text-long}
 use Rattle.name_states.specs.Written.{checkedSize}

@@ -8,27 +8,21 @@ use Rattle.name_states.proofs.encode.held_size.Lts as lts
 use Rattle.name_states.proofs.encode.amount_size.Reads as amount-size-reads
 use Rattle.name_states.proofs.encode.owner_size.Reads as owner-size-reads
 
--- src/encode.rt:58:5
 owner-size-requires : tie.Need-owner-size-requires
 owner-size-requires c κs = search needs
 
--- src/encode.rt:58:22
 amount-size-requires : tie.Need-amount-size-requires
 amount-size-requires c κs = search needs
 
--- src/encode.rt:58:43
 amount-size-requires-2 : tie.Need-amount-size-requires-2
 amount-size-requires-2 c κs = search needs
 
--- src/encode.rt:58:22
 add-result : tie.Need-add-result
 add-result c = search needs
 
--- src/encode.rt:58:5
 add-result-2 : tie.Need-add-result-2
 add-result-2 c = search needs
 
--- src/encode.rt:55:1
 returns : tie.Need-returns
 returns c = let a = c .before .before .before .args in (omega (arith, held-long (a .o) (a .value) (a .highest), c .before .before .owner-size .ensures .0, c .before .amount-size .ensures .0, c .amount-size2 .ensures .0), omega (arith, c .before .before .owner-size .ensures .1, c .before .amount-size .ensures .1, c .amount-size2 .ensures .1))
 

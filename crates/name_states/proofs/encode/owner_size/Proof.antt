@@ -11,27 +11,21 @@ use Rattle.name_states.proofs.encode.owner_size.Lts as lts
 use Rattle.encoding.proofs.put.compact_size_len.Reads as compact-size-len-reads
 use Rattle.primitives.proofs.Outpoint.is_null.Reads as is-null-reads
 
--- src/encode.rt:49:8
 is-null-requires : tie.Need-is-null-requires
 is-null-requires c κs = search needs
 
--- src/encode.rt:50:9
 returns : tie.Need-returns
 returns c = rw (no-owner _ (sym (c .before .is-null .ensures) ∙ c .if1 .taken)) (refl, omega arith)
 
--- src/encode.rt:52:27
 cast-compact-size-len : tie.Need-cast-compact-size-len
 cast-compact-size-len c = search needs
 
--- src/encode.rt:52:10
 compact-size-len-requires : tie.Need-compact-size-len-requires
 compact-size-len-requires c κs = search needs
 
--- src/encode.rt:52:5
 add-result : tie.Need-add-result
 add-result c = omega (arith, c .compact-size-len .ensures, compact-size-most (c .before .before .before .before .args .o .index) .1)
 
--- src/encode.rt:46:1
 returns-2 : tie.Need-returns-2
 returns-2 c =
     let h : length (c .before .before .before .before .args .o .«transaction_hash» .0) ≡ 32 = search needs in

@@ -12,27 +12,21 @@ use Rattle.name_states.proofs.encode.put_amount.Lts as lts
 use Rattle.encoding.proofs.put.compact_size_len.Reads as compact-size-len-reads
 use Rattle.encoding.proofs.put.put_compact_size.Reads as put-compact-size-reads
 
--- src/encode.rt:121:9
 returns : tie.Need-returns
 returns c = rw (no-amount _ (c .if1 .taken)) (omega arith, sym (over-nothing _ _))
 
--- src/encode.rt:123:5
 put-compact-size-requires : tie.Need-put-compact-size-requires
 put-compact-size-requires c κs = search needs
 
--- src/encode.rt:124:10
 compact-size-len-requires : tie.Need-compact-size-len-requires
 compact-size-len-requires c κs = search needs
 
--- src/encode.rt:124:5
 add-result : tie.Need-add-result
 add-result c = omega (arith, c .compact-size-len .ensures, amount-long (c .before .before .before .before .before .before .before .args .v) (c .before .before .before .before .before .if1 .left), c .before .before .before .before .before .before .before .pre)
 
--- src/encode.rt:116:1
 same-length : tie.Need-same-length
 same-length c = search needs
 
--- src/encode.rt:116:1
 returns-2 : tie.Need-returns-2
 returns-2 c =
     let a = c .before .before .before .before .before .before .before .args in

@@ -11,23 +11,18 @@ use Rattle.name_states.proofs.encode.put_held.Lts as lts
 use Rattle.name_states.proofs.encode.put_amount.Reads as put-amount-reads
 use Rattle.name_states.proofs.encode.put_owner.Reads as put-owner-reads
 
--- src/encode.rt:159:9
 put-owner-requires : tie.Need-put-owner-requires
 put-owner-requires c κs = let a = c .before .before .args in omega (arith, held-long (a .o) (a .value) (a .highest), c .before .before .pre)
 
--- src/encode.rt:160:9
 put-amount-requires : tie.Need-put-amount-requires
 put-amount-requires c κs = let a = c .before .before .before .before .before .before .args in omega (arith, held-long (a .o) (a .value) (a .highest), c .before .before .before .before .before .before .pre, c .before .before .before .put-owner .ensures .0, c .before .before .before .put-owner .kept .0)
 
--- src/encode.rt:161:5
 put-amount-requires-2 : tie.Need-put-amount-requires-2
 put-amount-requires-2 c κs = let a = c .before .before .before .before .before .before .before .before .before .before .args in omega (arith, held-long (a .o) (a .value) (a .highest), c .before .before .before .before .before .before .before .before .before .before .pre, c .before .before .before .before .before .before .before .put-owner .ensures .0, c .before .before .before .before .before .before .before .put-owner .kept .0, c .before .before .before .put-amount .ensures .0, c .before .before .before .put-amount .kept .0)
 
--- src/encode.rt:155:1
 same-length : tie.Need-same-length
 same-length c = search needs
 
--- src/encode.rt:155:1
 returns : tie.Need-returns
 unfolding ownHeld
 returns c =

@@ -13,31 +13,24 @@ use Rattle.name_states.proofs.encode.put_numbers.Reads as reads
 use Rattle.name_states.proofs.encode.put_numbers.Lts as lts
 use Rattle.words.proofs.store.put_le.Reads as put-le-reads
 
--- src/encode.rt:190:5
 put-le-requires : tie.Need-put-le-requires
 put-le-requires c κs = search needs
 
--- src/encode.rt:191:15
 add-put-le : tie.Need-add-put-le
 add-put-le c = search needs
 
--- src/encode.rt:191:5
 put-le-requires-2 : tie.Need-put-le-requires-2
 put-le-requires-2 c κs = search needs
 
--- src/encode.rt:192:15
 add-put-le-2 : tie.Need-add-put-le-2
 add-put-le-2 c = search needs
 
--- src/encode.rt:192:5
 put-le-requires-3 : tie.Need-put-le-requires-3
 put-le-requires-3 c κs = search needs
 
--- src/encode.rt:186:1
 same-length : tie.Need-same-length
 same-length c = search needs
 
--- src/encode.rt:186:1
 returns : tie.Need-returns
 returns c =
     let a = c .before .before .before .before .before .before .before .before .before .before .before .before .before .args in

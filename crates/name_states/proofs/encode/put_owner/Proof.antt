@@ -16,49 +16,38 @@ use Rattle.encoding.proofs.put.put_compact_size.Reads as put-compact-size-reads
 use Rattle.primitives.proofs.Outpoint.is_null.Reads as is-null-reads
 use Rattle.words.proofs.store.put_bytes.Reads as put-bytes-reads
 
--- src/encode.rt:143:8
 is-null-requires : tie.Need-is-null-requires
 is-null-requires c κs = search needs
 
--- src/encode.rt:144:9
 returns : tie.Need-returns
 returns c = rw (no-owner _ (sym (c .before .is-null .ensures) ∙ c .if1 .taken)) (omega arith, sym (over-nothing _ _))
 
--- src/encode.rt:148:17
 cast-index : tie.Need-cast-index
 cast-index c = search needs
 
--- src/encode.rt:149:22
 slice-aggregate-put-bytes : tie.Need-slice-aggregate-put-bytes
 slice-aggregate-put-bytes c = search needs
 
--- src/encode.rt:149:5
 put-bytes-requires : tie.Need-put-bytes-requires
 put-bytes-requires c κs = search needs
 
--- src/encode.rt:150:16
 add-next : tie.Need-add-next
 add-next c = search needs
 
--- src/encode.rt:151:5
 put-compact-size-requires : tie.Need-put-compact-size-requires
 put-compact-size-requires c κs = search needs
 
--- src/encode.rt:152:12
 compact-size-len-requires : tie.Need-compact-size-len-requires
 compact-size-len-requires c κs = search needs
 
--- src/encode.rt:152:5
 add-result : tie.Need-add-result
 add-result c =
     let h : length (c .before .before .before .before .before .before .before .before .before .before .before .before .before .before .before .before .args .o .«transaction_hash» .0) ≡ 32 = search needs in
     omega (arith, owner-long (c .before .before .before .before .before .before .before .before .before .before .before .before .before .before .before .before .args .o) h (sym (c .before .before .before .before .before .before .before .before .before .before .before .before .before .before .is-null .ensures) ∙ c .before .before .before .before .before .before .before .before .before .before .before .before .before .if1 .left), c .before .before .before .before .before .before .before .before .before .before .before .before .before .before .before .before .pre, c .compact-size-len .ensures)
 
--- src/encode.rt:139:1
 same-length : tie.Need-same-length
 same-length c = search needs
 
--- src/encode.rt:139:1
 returns-2 : tie.Need-returns-2
 returns-2 c =
     let a = c .before .before .before .before .before .before .before .before .before .before .before .before .before .before .before .before .args in

@@ -13,27 +13,21 @@ use Rattle.name_states.proofs.encode.put_text.Lts as lts
 use Rattle.words.proofs.store.put_bytes.Reads as put-bytes-reads
 use Rattle.words.proofs.store.put_le.Reads as put-le-reads
 
--- src/encode.rt:180:5
 put-le-requires : tie.Need-put-le-requires
 put-le-requires c κs = search needs
 
--- src/encode.rt:181:16
 add-body : tie.Need-add-body
 add-body c = search needs
 
--- src/encode.rt:182:5
 put-bytes-requires : tie.Need-put-bytes-requires
 put-bytes-requires c κs = search needs
 
--- src/encode.rt:183:5
 add-result : tie.Need-add-result
 add-result c = search needs
 
--- src/encode.rt:175:1
 same-length : tie.Need-same-length
 same-length c = search needs
 
--- src/encode.rt:175:1
 returns : tie.Need-returns
 returns c =
     let a = c .before .before .before .before .before .before .before .before .before .before .args in

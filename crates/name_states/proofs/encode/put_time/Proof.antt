@@ -11,23 +11,18 @@ use Rattle.name_states.proofs.encode.put_time.Reads as reads
 use Rattle.name_states.proofs.encode.put_time.Lts as lts
 use Rattle.words.proofs.store.put_le.Reads as put-le-reads
 
--- src/encode.rt:132:9
 returns : tie.Need-returns
 returns c = rw (no-time _ (c .if1 .taken)) (omega arith, sym (over-nothing _ _))
 
--- src/encode.rt:134:5
 put-le-requires : tie.Need-put-le-requires
 put-le-requires c κs = search needs
 
--- src/encode.rt:135:5
 add-result : tie.Need-add-result
 add-result c = search needs
 
--- src/encode.rt:127:1
 same-length : tie.Need-same-length
 same-length c = search needs
 
--- src/encode.rt:127:1
 returns-2 : tie.Need-returns-2
 returns-2 c =
     let a = c .before .before .before .before .before .before .args in

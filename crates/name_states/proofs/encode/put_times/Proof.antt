@@ -12,27 +12,21 @@ use Rattle.name_states.proofs.encode.put_times.Lts as lts
 use Rattle.name_states.proofs.encode.put_amount.Reads as put-amount-reads
 use Rattle.name_states.proofs.encode.put_time.Reads as put-time-reads
 
--- src/encode.rt:168:9
 put-time-requires : tie.Need-put-time-requires
 put-time-requires c κs = let a = c .before .before .args in omega (arith, times-long (a .transfer) (a .revoked) (a .claimed) (a .renewals), c .before .before .pre)
 
--- src/encode.rt:169:9
 put-time-requires-2 : tie.Need-put-time-requires-2
 put-time-requires-2 c κs = let a = c .before .before .before .before .before .before .args in omega (arith, times-long (a .transfer) (a .revoked) (a .claimed) (a .renewals), c .before .before .before .before .before .before .pre, c .before .before .before .put-time .ensures .0, c .before .before .before .put-time .kept .0)
 
--- src/encode.rt:170:9
 put-time-requires-3 : tie.Need-put-time-requires-3
 put-time-requires-3 c κs = let a = c .before .before .before .before .before .before .before .before .before .before .args in omega (arith, times-long (a .transfer) (a .revoked) (a .claimed) (a .renewals), c .before .before .before .before .before .before .before .before .before .before .pre, c .before .before .before .before .before .before .before .put-time .ensures .0, c .before .before .before .before .before .before .before .put-time .kept .0, c .before .before .before .put-time2 .ensures .0, c .before .before .before .put-time2 .kept .0)
 
--- src/encode.rt:171:5
 put-amount-requires : tie.Need-put-amount-requires
 put-amount-requires c κs = let a = c .before .before .before .before .before .before .before .before .before .before .before .before .before .before .args in omega (arith, times-long (a .transfer) (a .revoked) (a .claimed) (a .renewals), c .before .before .before .before .before .before .before .before .before .before .before .before .before .before .pre, c .before .before .before .before .before .before .before .before .before .before .before .put-time .ensures .0, c .before .before .before .before .before .before .before .before .before .before .before .put-time .kept .0, c .before .before .before .before .before .before .before .put-time2 .ensures .0, c .before .before .before .before .before .before .before .put-time2 .kept .0, c .before .before .before .put-time3 .ensures .0, c .before .before .before .put-time3 .kept .0)
 
--- src/encode.rt:164:1
 same-length : tie.Need-same-length
 same-length c = search needs
 
--- src/encode.rt:164:1
 returns : tie.Need-returns
 unfolding ownTimes
 returns c =

@@ -8,31 +8,24 @@ use Rattle.name_states.proofs.encode.record_size.Lts as lts
 use Rattle.name_states.proofs.encode.held_size.Reads as held-size-reads
 use Rattle.name_states.proofs.encode.times_size.Reads as times-size-reads
 
--- src/encode.rt:72:9
 held-size-requires : tie.Need-held-size-requires
 held-size-requires c κs = search needs
 
--- src/encode.rt:73:9
 times-size-requires : tie.Need-times-size-requires
 times-size-requires c κs = search needs
 
--- src/encode.rt:74:5
 add-result : tie.Need-add-result
 add-result c = search needs
 
--- src/encode.rt:74:56
 add-result-2 : tie.Need-add-result-2
 add-result-2 c = search needs
 
--- src/encode.rt:74:50
 add-result-3 : tie.Need-add-result-3
 add-result-3 c = search needs
 
--- src/encode.rt:74:5
 add-result-4 : tie.Need-add-result-4
 add-result-4 c = search needs
 
--- src/encode.rt:68:1
 returns : tie.Need-returns
 returns c = omega (arith, state-long (c .before .before .before .args .state), c .before .before .held-size .ensures .0, c .before .times-size .ensures .0)
 

@@ -6,11 +6,9 @@ use Rattle.name_states.proofs.encode.time_size.Tie as tie
 use Rattle.name_states.proofs.encode.time_size.Reads as reads
 use Rattle.name_states.proofs.encode.time_size.Lts as lts
 
--- src/encode.rt:40:9
 returns : tie.Need-returns
 returns c = rw (no-time _ (c .if1 .taken)) (refl, omega arith)
 
--- src/encode.rt:36:1
 returns-2 : tie.Need-returns-2
 returns-2 c = (sym (time-long _ (c .if1 .left)), omega arith)
 

@@ -8,35 +8,27 @@ use Rattle.name_states.proofs.encode.times_size.Lts as lts
 use Rattle.name_states.proofs.encode.amount_size.Reads as amount-size-reads
 use Rattle.name_states.proofs.encode.time_size.Reads as time-size-reads
 
--- src/encode.rt:64:5
 time-size-requires : tie.Need-time-size-requires
 time-size-requires c κs = search needs
 
--- src/encode.rt:64:27
 time-size-requires-2 : tie.Need-time-size-requires-2
 time-size-requires-2 c κs = search needs
 
--- src/encode.rt:64:5
 add-result : tie.Need-add-result
 add-result c = search needs
 
--- src/encode.rt:64:48
 time-size-requires-3 : tie.Need-time-size-requires-3
 time-size-requires-3 c κs = search needs
 
--- src/encode.rt:64:5
 add-result-2 : tie.Need-add-result-2
 add-result-2 c = search needs
 
--- src/encode.rt:64:69
 amount-size-requires : tie.Need-amount-size-requires
 amount-size-requires c κs = search needs
 
--- src/encode.rt:64:5
 add-result-3 : tie.Need-add-result-3
 add-result-3 c = search needs
 
--- src/encode.rt:61:1
 returns : tie.Need-returns
 returns c = let a = c .before .before .before .before .args in (omega (arith, times-long (a .transfer) (a .revoked) (a .claimed) (a .renewals), c .before .before .before .time-size .ensures .0, c .before .before .time-size2 .ensures .0, c .before .time-size3 .ensures .0, c .amount-size .ensures .0), omega (arith, c .before .before .before .time-size .ensures .1, c .before .before .time-size2 .ensures .1, c .before .time-size3 .ensures .1, c .amount-size .ensures .1))
 

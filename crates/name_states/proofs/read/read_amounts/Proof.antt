@@ -6,41 +6,32 @@ use Rattle.name_states.proofs.read.read_amounts.Reads as reads
 use Rattle.name_states.proofs.read.read_amounts.Lts as lts
 use Rattle.name_states.proofs.read.read_amount.Reads as read-amount-reads
 
--- src/read.rt:285:11
 read-amount-requires : tie.Need-read-amount-requires
 read-amount-requires c κs = search needs
 
--- src/read.rt:286:24
 enum-known-value : tie.Need-enum-known-value
 enum-known-value c = search needs
 
--- src/read.rt:286:44
 read-amount-requires-2 : tie.Need-read-amount-requires-2
 read-amount-requires-2 c κs = search needs
 
--- src/read.rt:287:28
 enum-known-highest : tie.Need-enum-known-highest
 enum-known-highest c = search needs
 
--- src/read.rt:291:30
-enum-known-stop : tie.Need-enum-known-stop
-enum-known-stop c = search needs
-
--- src/read.rt:293:26
-enum-known-stop-2 : tie.Need-enum-known-stop-2
-enum-known-stop-2 c = search needs
-
--- src/read.rt:282:1
 returns : tie.Need-returns
 unfolding amountsAt
 returns c = rw (← c .before .before .before .before .before .before .before .read-amount .ensures, c .before .before .before .before .before .value .given .1, ← c .before .before .before .read-amount2 .ensures, c .before .highest .given .1)
 
--- src/read.rt:282:1
+enum-known-stop : tie.Need-enum-known-stop
+enum-known-stop c = search needs
+
 returns-2 : tie.Need-returns-2
 unfolding amountsAt
 returns-2 c = rw (← c .before .before .before .before .before .before .before .read-amount .ensures, c .before .before .before .before .before .value .given .1, ← c .before .before .before .read-amount2 .ensures, c .before .stop .given .1)
 
--- src/read.rt:282:1
+enum-known-stop-2 : tie.Need-enum-known-stop-2
+enum-known-stop-2 c = search needs
+
 returns-3 : tie.Need-returns-3
 unfolding amountsAt
 returns-3 c = rw (← c .before .before .before .read-amount .ensures, c .before .stop2 .given .1)
@@ -53,8 +44,8 @@ read-amounts-spec =
     enum-known-value
     read-amount-requires-2
     enum-known-highest
-    enum-known-stop
-    enum-known-stop-2
     returns
+    enum-known-stop
     returns-2
+    enum-known-stop-2
     returns-3)

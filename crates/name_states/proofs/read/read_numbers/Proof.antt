@@ -7,58 +7,45 @@ use Rattle.name_states.proofs.read.read_numbers.Lts as lts
 use Rattle.encoding.proofs.read.Cursor.read_u32_le.Reads as read-u32-le-reads
 use Rattle.name_states.proofs.read.read_bits.Reads as read-bits-reads
 
--- src/read.rt:169:11
 read-u32-le-requires : tie.Need-read-u32-le-requires
 read-u32-le-requires c κs = search needs
 
--- src/read.rt:170:24
 enum-known-height : tie.Need-enum-known-height
 enum-known-height c = search needs
 
--- src/read.rt:170:45
 read-u32-le-requires-2 : tie.Need-read-u32-le-requires-2
 read-u32-le-requires-2 c κs = search needs
 
--- src/read.rt:171:28
 enum-known-renewal : tie.Need-enum-known-renewal
 enum-known-renewal c = search needs
 
--- src/read.rt:171:50
 read-bits-requires : tie.Need-read-bits-requires
 read-bits-requires c κs = search needs
 
--- src/read.rt:172:32
 enum-known-bits : tie.Need-enum-known-bits
 enum-known-bits c = search needs
 
--- src/read.rt:180:34
-enum-known-stop : tie.Need-enum-known-stop
-enum-known-stop c = search needs
-
--- src/read.rt:182:30
-enum-known-stop-2 : tie.Need-enum-known-stop-2
-enum-known-stop-2 c = search needs
-
--- src/read.rt:184:26
-enum-known-stop-3 : tie.Need-enum-known-stop-3
-enum-known-stop-3 c = search needs
-
--- src/read.rt:166:1
 returns : tie.Need-returns
 unfolding numbersAt
 returns c = rw (← c .before .before .before .before .before .before .before .before .before .before .before .read-u32-le .ensures, c .before .before .before .before .before .before .before .before .before .height .given .1, ← c .before .before .before .before .before .before .before .read-u32-le2 .ensures, c .before .before .before .before .before .renewal .given .1, ← c .before .before .before .read-bits .ensures, c .before .bits .given .1)
 
--- src/read.rt:166:1
+enum-known-stop : tie.Need-enum-known-stop
+enum-known-stop c = search needs
+
 returns-2 : tie.Need-returns-2
 unfolding numbersAt
 returns-2 c = rw (← c .before .before .before .before .before .before .before .before .before .before .before .read-u32-le .ensures, c .before .before .before .before .before .before .before .before .before .height .given .1, ← c .before .before .before .before .before .before .before .read-u32-le2 .ensures, c .before .before .before .before .before .renewal .given .1, ← c .before .before .before .read-bits .ensures, c .before .stop .given .1)
 
--- src/read.rt:166:1
+enum-known-stop-2 : tie.Need-enum-known-stop-2
+enum-known-stop-2 c = search needs
+
 returns-3 : tie.Need-returns-3
 unfolding numbersAt
 returns-3 c = rw (← c .before .before .before .before .before .before .before .read-u32-le .ensures, c .before .before .before .before .before .height .given .1, ← c .before .before .before .read-u32-le2 .ensures, c .before .stop2 .given .1)
 
--- src/read.rt:166:1
+enum-known-stop-3 : tie.Need-enum-known-stop-3
+enum-known-stop-3 c = search needs
+
 returns-4 : tie.Need-returns-4
 unfolding numbersAt
 returns-4 c = rw (← c .before .before .before .read-u32-le .ensures, c .before .stop3 .given .1)
@@ -73,10 +60,10 @@ read-numbers-spec =
     enum-known-renewal
     read-bits-requires
     enum-known-bits
-    enum-known-stop
-    enum-known-stop-2
-    enum-known-stop-3
     returns
+    enum-known-stop
     returns-2
+    enum-known-stop-2
     returns-3
+    enum-known-stop-3
     returns-4)

@@ -7,32 +7,25 @@ use Rattle.name_states.proofs.read.read_resource.Lts as lts
 use Rattle.encoding.proofs.read.Cursor.read_u16_le.Reads as read-u16-le-reads
 use Rattle.name_states.proofs.read.read_body.Reads as read-body-reads
 
--- src/read.rt:119:11
 read-u16-le-requires : tie.Need-read-u16-le-requires
 read-u16-le-requires c κs = search needs
 
--- src/read.rt:120:24
 enum-known-n : tie.Need-enum-known-n
 enum-known-n c = search needs
 
--- src/read.rt:120:55
 cast-read-body : tie.Need-cast-read-body
 cast-read-body c = search needs
 
--- src/read.rt:120:36
 read-body-requires : tie.Need-read-body-requires
 read-body-requires c κs = search needs
 
--- src/read.rt:121:26
-enum-known-stop : tie.Need-enum-known-stop
-enum-known-stop c = search needs
-
--- src/read.rt:116:1
 returns : tie.Need-returns
 unfolding textAt
 returns c = rw (← c .before .before .before .before .read-u16-le .ensures, c .before .before .n .given .1) (c .read-body .ensures)
 
--- src/read.rt:116:1
+enum-known-stop : tie.Need-enum-known-stop
+enum-known-stop c = search needs
+
 returns-2 : tie.Need-returns-2
 unfolding textAt
 returns-2 c = rw (← c .before .before .before .read-u16-le .ensures, c .before .stop .given .1)
@@ -45,6 +38,6 @@ read-resource-spec =
     enum-known-n
     cast-read-body
     read-body-requires
-    enum-known-stop
     returns
+    enum-known-stop
     returns-2)

@@ -7,41 +7,32 @@ use Rattle.name_states.proofs.read.read_texts.Lts as lts
 use Rattle.name_states.proofs.read.read_name.Reads as read-name-reads
 use Rattle.name_states.proofs.read.read_resource.Reads as read-resource-reads
 
--- src/read.rt:129:11
 read-name-requires : tie.Need-read-name-requires
 read-name-requires c κs = search needs
 
--- src/read.rt:130:33
 enum-known-a : tie.Need-enum-known-a
 enum-known-a c = search needs
 
--- src/read.rt:130:60
 read-resource-requires : tie.Need-read-resource-requires
 read-resource-requires c κs = search needs
 
--- src/read.rt:131:37
 enum-known-b : tie.Need-enum-known-b
 enum-known-b c = search needs
 
--- src/read.rt:140:31
-enum-known-stop : tie.Need-enum-known-stop
-enum-known-stop c = search needs
-
--- src/read.rt:142:27
-enum-known-stop-2 : tie.Need-enum-known-stop-2
-enum-known-stop-2 c = search needs
-
--- src/read.rt:126:1
 returns : tie.Need-returns
 unfolding textsAt
 returns c = rw (← c .before .before .before .before .before .before .before .read-name .ensures, c .before .before .before .before .before .a .given .1, ← c .before .before .before .read-resource .ensures, c .before .b .given .1)
 
--- src/read.rt:126:1
+enum-known-stop : tie.Need-enum-known-stop
+enum-known-stop c = search needs
+
 returns-2 : tie.Need-returns-2
 unfolding textsAt
 returns-2 c = rw (← c .before .before .before .before .before .before .before .read-name .ensures, c .before .before .before .before .before .a .given .1, ← c .before .before .before .read-resource .ensures, c .before .stop .given .1)
 
--- src/read.rt:126:1
+enum-known-stop-2 : tie.Need-enum-known-stop-2
+enum-known-stop-2 c = search needs
+
 returns-3 : tie.Need-returns-3
 unfolding textsAt
 returns-3 c = rw (← c .before .before .before .read-name .ensures, c .before .stop2 .given .1)
@@ -54,8 +45,8 @@ read-texts-spec =
     enum-known-a
     read-resource-requires
     enum-known-b
-    enum-known-stop
-    enum-known-stop-2
     returns
+    enum-known-stop
     returns-2
+    enum-known-stop-2
     returns-3)

@@ -7,75 +7,58 @@ use Rattle.name_states.proofs.read.read_times.Lts as lts
 use Rattle.name_states.proofs.read.read_renewals.Reads as read-renewals-reads
 use Rattle.name_states.proofs.read.read_time.Reads as read-time-reads
 
--- src/read.rt:320:11
 read-time-requires : tie.Need-read-time-requires
 read-time-requires c κs = search needs
 
--- src/read.rt:321:24
 enum-known-transfer : tie.Need-enum-known-transfer
 enum-known-transfer c = search needs
 
--- src/read.rt:321:47
 read-time-requires-2 : tie.Need-read-time-requires-2
 read-time-requires-2 c κs = search needs
 
--- src/read.rt:322:28
 enum-known-revoked : tie.Need-enum-known-revoked
 enum-known-revoked c = search needs
 
--- src/read.rt:322:50
 read-time-requires-3 : tie.Need-read-time-requires-3
 read-time-requires-3 c κs = search needs
 
--- src/read.rt:323:32
 enum-known-claimed : tie.Need-enum-known-claimed
 enum-known-claimed c = search needs
 
--- src/read.rt:323:54
 read-renewals-requires : tie.Need-read-renewals-requires
 read-renewals-requires c κs = search needs
 
--- src/read.rt:324:36
 enum-known-renewals : tie.Need-enum-known-renewals
 enum-known-renewals c = search needs
 
--- src/read.rt:333:38
-enum-known-stop : tie.Need-enum-known-stop
-enum-known-stop c = search needs
-
--- src/read.rt:335:34
-enum-known-stop-2 : tie.Need-enum-known-stop-2
-enum-known-stop-2 c = search needs
-
--- src/read.rt:337:30
-enum-known-stop-3 : tie.Need-enum-known-stop-3
-enum-known-stop-3 c = search needs
-
--- src/read.rt:339:26
-enum-known-stop-4 : tie.Need-enum-known-stop-4
-enum-known-stop-4 c = search needs
-
--- src/read.rt:317:1
 returns : tie.Need-returns
 unfolding timesAt
 returns c = rw (← c .before .before .before .before .before .before .before .before .before .before .before .before .before .before .before .read-time .ensures, c .before .before .before .before .before .before .before .before .before .before .before .before .before .transfer .given .1, ← c .before .before .before .before .before .before .before .before .before .before .before .read-time2 .ensures, c .before .before .before .before .before .before .before .before .before .revoked .given .1, ← c .before .before .before .before .before .before .before .read-time3 .ensures, c .before .before .before .before .before .claimed .given .1, ← c .before .before .before .read-renewals .ensures, c .before .renewals .given .1)
 
--- src/read.rt:317:1
+enum-known-stop : tie.Need-enum-known-stop
+enum-known-stop c = search needs
+
 returns-2 : tie.Need-returns-2
 unfolding timesAt
 returns-2 c = rw (← c .before .before .before .before .before .before .before .before .before .before .before .before .before .before .before .read-time .ensures, c .before .before .before .before .before .before .before .before .before .before .before .before .before .transfer .given .1, ← c .before .before .before .before .before .before .before .before .before .before .before .read-time2 .ensures, c .before .before .before .before .before .before .before .before .before .revoked .given .1, ← c .before .before .before .before .before .before .before .read-time3 .ensures, c .before .before .before .before .before .claimed .given .1, ← c .before .before .before .read-renewals .ensures, c .before .stop .given .1)
 
--- src/read.rt:317:1
+enum-known-stop-2 : tie.Need-enum-known-stop-2
+enum-known-stop-2 c = search needs
+
 returns-3 : tie.Need-returns-3
 unfolding timesAt
 returns-3 c = rw (← c .before .before .before .before .before .before .before .before .before .before .before .read-time .ensures, c .before .before .before .before .before .before .before .before .before .transfer .given .1, ← c .before .before .before .before .before .before .before .read-time2 .ensures, c .before .before .before .before .before .revoked .given .1, ← c .before .before .before .read-time3 .ensures, c .before .stop2 .given .1)
 
--- src/read.rt:317:1
+enum-known-stop-3 : tie.Need-enum-known-stop-3
+enum-known-stop-3 c = search needs
+
 returns-4 : tie.Need-returns-4
 unfolding timesAt
 returns-4 c = rw (← c .before .before .before .before .before .before .before .read-time .ensures, c .before .before .before .before .before .transfer .given .1, ← c .before .before .before .read-time2 .ensures, c .before .stop3 .given .1)
 
--- src/read.rt:317:1
+enum-known-stop-4 : tie.Need-enum-known-stop-4
+enum-known-stop-4 c = search needs
+
 returns-5 : tie.Need-returns-5
 unfolding timesAt
 returns-5 c = rw (← c .before .before .before .read-time .ensures, c .before .stop4 .given .1)
@@ -92,12 +75,12 @@ read-times-spec =
     enum-known-claimed
     read-renewals-requires
     enum-known-renewals
-    enum-known-stop
-    enum-known-stop-2
-    enum-known-stop-3
-    enum-known-stop-4
     returns
+    enum-known-stop
     returns-2
+    enum-known-stop-2
     returns-3
+    enum-known-stop-3
     returns-4
+    enum-known-stop-4
     returns-5)
