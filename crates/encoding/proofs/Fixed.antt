@@ -11,7 +11,6 @@ use lib.Dec.{ltb, eqb}
 use borrow.Author.Tests.{lt-ltb, ltb-false}
 use Rattle.words.specs.Words.{le, Bytes}
 use Rattle.words.specs.Buffers.{pick, laid}
-use Rattle.words.proofs.Cases.{by-order}
 use Rattle.words.proofs.Le.{le-under}
 use Rattle.words.proofs.Over.{laid-all}
 use Rattle.refusal.specs.Outcome.{Outcome, ok, err, then}
@@ -140,8 +139,10 @@ module _ (s : List ℕ) (at : ℕ) (big : length s < 2 ^ 64) (h : at < length s)
   unfolding compactAt
   compact-byte k = rw (byte-read, lt-ltb _ _ k)
 
--- where no byte is left, a compact size is refused as a byte is
-pub compact-none : (s : List ℕ) (at : ℕ) → length s + 1 < 2 ^ 64 → length s ≤ at → fixedAt 1 s at ≡ compactAt s at
-unfolding compactAt fixedAt bytesAt
-compact-none s at big h =
-    by-order (length s) at (λ k. rw (slice.beyond 1 s at k)) (λ k. rw (slice.cut 1 s at {m = 1} k (omega arith) (omega arith) (omega arith)))
+-- a first byte that was read is a tag, where the byte that stands there is one
+pub tag-above : (s : List ℕ) (at : ℕ) {tag p : ℕ} → length s < 2 ^ 64 → (at < length s → 252 < getD s at 0) → fixedAt 1 s at ≡ ok tag p → 253 ≤ tag
+tag-above s at {tag} {p} big above e =
+    let m = fixed-moves 1 s at big e in
+    let h : at < length s = omega arith in
+    let same : getD s at 0 ≡ tag = cc (byte-read s at big h) in
+    omega (arith, above h)

@@ -3,7 +3,7 @@ use refusal::Refusal;
 use refusal::Stop;
 ghost use mathlib.Core.Path.{_≡_};
 ghost use Prim.Native.Nat.{ℕ, _+_, _-_, _≤_, _<_};
-ghost use lib.ListN.{length, take, drop};
+ghost use lib.ListN.{length, take, drop, getD};
 ghost use Rattle.words.specs.Words.{le};
 ghost use Rattle.refusal.specs.Outcome.{then};
 ghost use Rattle.refusal.specs.declared.Refusal.{Refusal};
@@ -210,15 +210,13 @@ impl Cursor {
         self.fixed(s, 8)
     }
 
-    // A compact size of any width.
-    fn any_compact(self, s: &[u8]) -> ReadU64
+    // A compact size whose first byte is the tag of a longer form, or is not there.
+    fn longer_compact(self, s: &[u8]) -> ReadU64
+        requires { ⌜ (self .position < length (now s) → 252 < getD (now s) (self .position) 0) ⌝ }
         ensures { λ r. ⌜ u64Paper r ≡ compactAt (now (s .entry)) (self .position) ⌝ }
     {
         match self.read_u8(s) {
             ReadU8::Value(tag, next) => {
-                if tag < 253 {
-                    return ReadU64::Value(wide(tag), next);
-                }
                 if tag == 253 {
                     return shortest(next.fixed(s, 2), 16, 253);
                 }
@@ -231,17 +229,18 @@ impl Cursor {
         }
     }
 
-    // Most sizes are one byte: this way is short enough to be compiled into its callers.
+    // Most sizes are one byte: this way is short enough to be compiled into its callers. The rest, with the tag once more, is a function of two
+    // calls: one of a single call would be compiled into this.
     pub fn read_compact_size(self, s: &[u8]) -> ReadU64
         ensures { λ r. ⌜ u64Paper r ≡ compactAt (now (s .entry)) (self .position) ⌝ }
     {
         let at = self.position;
         if s.len() <= at {
-            return self.any_compact(s);
+            return self.longer_compact(s);
         }
         let tag = s[at];
         if 252 < tag {
-            return self.any_compact(s);
+            return self.longer_compact(s);
         }
         let position = at + 1;
         ReadU64::Value(wide(tag), Cursor { position })

@@ -6,11 +6,11 @@ use Rattle.encoding.proofs.read.Cursor.read_compact_size.Statement.{sta
 use Rattle.encoding.proofs.read.Cursor.read_compact_size.Tie as tie
 use Rattle.encoding.proofs.read.Cursor.read_compact_size.Reads as reads
 use Rattle.encoding.proofs.read.Cursor.read_compact_size.Lts as lts
-use Rattle.encoding.proofs.read.Cursor.any_compact.Reads as any-compact-reads
+use Rattle.encoding.proofs.read.Cursor.longer_compact.Reads as longer-compact-reads
 use Rattle.encoding.proofs.read.wide.Reads as wide-reads
 
-any-compact-requires : tie.Need-any-compact-requires
-any-compact-requires c κs = search needs
+longer-compact-requires : tie.Need-longer-compact-requires
+longer-compact-requires c κs = λ h. omega arith
 
 returns : tie.Need-returns
 returns c = search needs
@@ -18,8 +18,8 @@ returns c = search needs
 shared-slice-read-tag : tie.Need-shared-slice-read-tag
 shared-slice-read-tag c = search needs
 
-any-compact-requires-2 : tie.Need-any-compact-requires-2
-any-compact-requires-2 c κs = search needs
+longer-compact-requires-2 : tie.Need-longer-compact-requires-2
+longer-compact-requires-2 c κs = λ h. omega arith
 
 returns-2 : tie.Need-returns-2
 returns-2 c = search needs
@@ -37,10 +37,10 @@ pub read-compact-size-spec : {M : Type 1} → statement M
 read-compact-size-spec =
     tie.close
     (tie.spec
-    any-compact-requires
+    longer-compact-requires
     returns
     shared-slice-read-tag
-    any-compact-requires-2
+    longer-compact-requires-2
     returns-2
     add-position
     wide-requires
