@@ -1,17 +1,17 @@
 -- G, the schedule, a round, and the work vector.
-use mathlib.Core.Path.{_≡_, refl, ap, _∙_}
+use mathlib.Core.Path.{_≡_, ap}
 use mathlib.Core.Bool.{Bool, true}
 use mathlib.Core.List.{List, [], _∷_}
-use Prim.Native.Nat.{ℕ, zero, suc, _+_, _/_, _%_, _^_, _≤_, _<_}
+use Prim.Native.Nat.{ℕ, zero, suc, _+_, _/_, _%_, _^_, _<_}
 use native.Mathlib.Nat.{mod-eq-of-lt}
 use native.Mathlib.Omega.{arith}
 use lib.Bits.{bitXor}
 use lib.Dec.{T, ltb, lit<, ltb→lt}
-use lib.ListN.{length, take, drop, getD}
-use lib.Seq.{drop-cons, take-all}
+use lib.ListN.{length, getD}
 use Rattle.words.proofs.Table.{both, both-left, both-right}
-use Rattle.blake2b.specs.Blake2b.{ror, iv, sigma, half, lay, G, word, cols, diags, round, row, rounds, flagged, start}
-use Rattle.blake2b.specs.Turns.{Row, column, joined, four, turned, back}
+use Rattle.words.proofs.Entries.{all-entries}
+use Rattle.blake2b.specs.Blake2b.{ror, iv, sigma, half, lay, G, word, cols, diags, round, row, flagged, start}
+use Rattle.blake2b.specs.Turns.{Row, column, joined, four, turned, back, roundsFrom}
 
 -- four lines of G, with the two sums as they were computed
 pub half-law :
@@ -48,20 +48,6 @@ named r = in-table sigma tt (r % 10)
 
 -- ---- one round
 
-tab : ℕ → ℕ → List ℕ → List ℕ
-tab k zero v = []
-tab k (suc n) v = getD v k 0 ∷ tab (suc k) n v
-
-tab-is : (k n : ℕ) (v : List ℕ) → k + n ≤ length v → tab k n v ≡ take n (drop k v)
-unfolding tab
-tab-is k zero v h = refl
-tab-is k (suc n) v h =
-    let l : k < length v = omega arith in
-    rw (drop-cons v k 0) (ap (λ (w : List ℕ). getD v k 0 ∷ w) (tab-is (suc k) n v (omega arith)))
-
-eta16 : (v : List ℕ) → length v ≡ 16 → tab 0 16 v ≡ v
-eta16 v h = tab-is 0 16 v (omega arith) ∙ take-all 16 v (omega arith)
-
 -- four lines of G on a list of four words
 abbrev pub on : (r s : ℕ) → List ℕ → ℕ → List ℕ
 on r s w x = half r s (getD w 0 0) (getD w 1 0) (getD w 2 0) (getD w 3 0) x
@@ -80,18 +66,18 @@ pub four-law :
     q2 ≡ on 16 63 (on 32 24 (column v 2) (word m s (at + 4))) (word m s (at + 5)) →
     q3 ≡ on 16 63 (on 32 24 (column v 3) (word m s (at + 6))) (word m s (at + 7)) →
     joined q0 q1 q2 q3 ≡ four m s at v
-unfolding tab lay G four
-four-law m s at v long e0 e1 e2 e3 = rw (e0, e1, e2, e3) (ap (four m s at) (eta16 v long))
+unfolding lay G four
+four-law m s at v long e0 e1 e2 e3 = rw (e0, e1, e2, e3) (ap (four m s at) (all-entries 16 v long))
 
 pub diags-law : (m s v : List ℕ) → length v ≡ 16 → back (four m s 8 (turned v)) ≡ diags m s v
-unfolding tab lay G four diags
-diags-law m s v long = ap (diags m s) (eta16 v long)
+unfolding lay G four diags
+diags-law m s v long = ap (diags m s) (all-entries 16 v long)
 
 -- one round more
 pub round-more :
-    (m a : List ℕ) (n : ℕ) {v u w : List ℕ} → v ≡ rounds n m a → u ≡ cols m (row n) v → w ≡ diags m (row n) u → w ≡ rounds (suc n) m a
-unfolding round rounds
-round-more m a n e f g = rw (g, f, e)
+    (m a : List ℕ) (k n : ℕ) {v u w : List ℕ} → v ≡ roundsFrom k n m a → u ≡ cols m (row (k + n)) v → w ≡ diags m (row (k + n)) u → w ≡ roundsFrom k (suc n) m a
+unfolding round roundsFrom
+round-more m a k n e f g = rw (g, f, e)
 
 -- ---- the work vector: a counter of one word
 
