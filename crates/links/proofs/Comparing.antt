@@ -14,7 +14,7 @@ use Rattle.covenants.specs.Paper.{spotPaper}
 use Rattle.covenants.specs.declared.items.Spot.{Spot}
 use Rattle.covenants.specs.declared.items.Two.{Two}
 use Rattle.links.specs.Rules.{Step, passes, breaks, after, check, agree, nameAndStart}
-use Rattle.links.specs.Workers.{widthOf}
+use Rattle.links.specs.Workers.{widthOf, FoundTwo}
 
 -- ---- two items that agree
 
@@ -31,10 +31,7 @@ module _ (i k width field : ℕ) (xs ys : List (List ℕ)) where
   unfolding agree
   agree-both p l q m number = rw (p, eq-eqb _ _ l, q, eq-eqb _ _ m)
 
--- the first two items of the covenant that stands there, found together; item 0 or item 1 of them
-abbrev pub FoundTwo : List ℕ → ℕ → Two → Type 0
-FoundTwo s at two = (spotPaper (two .first) ≡ seekAt s at 0) × (spotPaper (two .second) ≡ seekAt s at 1)
-
+-- item 0 or item 1 of two that were found together
 pub nth-found : (s : List ℕ) (at : ℕ) (two : Two) → FoundTwo s at two → (k : ℕ) → k < 2 → {r : Spot} → r ≡ pick (eqb k 0) (two .first) (two .second) → spotPaper r ≡ seekAt s at k
 nth-found s at two p zero h e = ap spotPaper e ∙ p .0
 nth-found s at two p (suc zero) h e = ap spotPaper e ∙ p .1

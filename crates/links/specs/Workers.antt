@@ -1,6 +1,6 @@
 -- Words of the functions that judge one input, and of their proofs; no outsider reads them.
 use mathlib.Core.Path.{_≡_}
-use Prim.Native.Nat.{ℕ, _+_, _^_, _≤_, _<_}
+use Prim.Native.Nat.{ℕ, _+_, _*_, _^_, _≤_, _<_}
 use mathlib.Core.List.{List, [], _∷_}
 use mathlib.Core.Bool.{_&&_}
 use lib.ListN.{length, getD}
@@ -12,6 +12,7 @@ use Rattle.refusal.specs.Paper.{numberOf, carried}
 use Rattle.covenants.specs.Items.{Maybe, absent, seekAt}
 use Rattle.covenants.specs.Paper.{spotPaper}
 use Rattle.covenants.specs.declared.items.Spot.{Spot}
+use Rattle.covenants.specs.declared.items.Two.{Two}
 use Rattle.covenants.specs.Covenant.{Reading, covenantAt, bytesIn}
 use Rattle.sheets.specs.Sheet.{Output, itemsFrom}
 use Rattle.links.specs.Rules.{Step, passes, breaks, after, check, oneOf, agree, bidRule, revealRule, ownedRule, transferRule, freeRule, unknownRule, paired}
@@ -48,6 +49,16 @@ abbrev pub SpotPairs : ℕ → Spot → Spot → ℕ → ℕ → Pair → Type 0
 SpotPairs i a b width field r =
     (coins tx : List ℕ) (spent made k : ℕ) → (length coins < 2 ^ 64) × (length tx < 2 ^ 64) → Readable coins spent → Readable tx made
     → spotPaper a ≡ seekAt coins spent k → spotPaper b ≡ seekAt tx made k → Pairs coins tx spent made i k width field r
+
+-- the first two items of the covenant that stands there, found together
+abbrev pub FoundTwo : List ℕ → ℕ → Two → Type 0
+FoundTwo s at two = (spotPaper (two .first) ≡ seekAt s at 0) × (spotPaper (two .second) ≡ seekAt s at 1)
+
+-- and of item k of both, in any covenants where they were found
+abbrev pub TwoPairs : ℕ → Two → Two → ℕ → ℕ → Pair → Type 0
+TwoPairs i a b k width r =
+    (coins tx : List ℕ) (spent made : ℕ) → (length coins < 2 ^ 64) × (length tx < 2 ^ 64) → Readable coins spent → Readable tx made
+    → FoundTwo coins spent a → FoundTwo tx made b → Pairs coins tx spent made i k width (k * 2 + 1) r
 
 -- the end of `destination`, from the transfer's version on
 abbrev pub namedAddress : ℕ → Output → Output → ℕ → Step

@@ -2,8 +2,8 @@
 mod rows;
 mod walk;
 
-use crate::walk::answered;
 use crate::walk::outpoint_at;
+use crate::walk::refused;
 use crate::walk::walk;
 use primitives::Outpoint;
 use refusal::Refusal;
@@ -53,19 +53,14 @@ fn judged_links(tx: &[u8], coins: &[u8], inputs: usize, outputs: usize, n: usize
     ensures { λ r. ⌜ verifiedPaper r ≡ told (linksOf (inputsIn (now (tx .entry)) inputs) (outputsIn (now (tx .entry)) outputs (4 + inputs * 36)) (coinsIn (now (coins .entry)) n)) ⌝ }
 {
     if is_coinbase(tx, inputs) {
-        return answered(Links::Refused {
-            refusal: Refusal::CoinbaseRequiresIssuanceVerifier,
-            side: 0,
-        });
+        return refused(Refusal::CoinbaseRequiresIssuanceVerifier, 0);
     }
     if inputs != n {
-        return answered(Links::Refused {
-            refusal: Refusal::InputCountMismatch {
-                transaction: inputs,
-                coins: n,
-            },
-            side: 0,
-        });
+        let refusal = Refusal::InputCountMismatch {
+            transaction: inputs,
+            coins: n,
+        };
+        return refused(refusal, 0);
     }
     walk(tx, coins, inputs, outputs)
 }
@@ -76,9 +71,15 @@ pub fn verify_covenant_links(tx: &[u8], coins: &[u8]) -> Verified
 {
     match judge_transaction(&tx[..]) {
         SheetRead::Counts(inputs, outputs) => match judge_coins(&coins[..]) {
-            SheetRead::Counts(n, _) => judged_links(&tx[..], &coins[..], inputs, outputs, n),
-            SheetRead::Refused { refusal, side } => answered(Links::Refused { refusal, side }),
+            SheetRead::Counts(n, _) => {
+                return judged_links(&tx[..], &coins[..], inputs, outputs, n);
+            }
+            SheetRead::Refused { refusal, side } => {
+                return refused(refusal, side);
+            }
         },
-        SheetRead::Refused { refusal, side } => answered(Links::Refused { refusal, side }),
+        SheetRead::Refused { refusal, side } => {
+            return refused(refusal, side);
+        }
     }
 }

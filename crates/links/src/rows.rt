@@ -27,7 +27,7 @@ ghost use Rattle.sheets.specs.Sheet.{outputOf};
 ghost use Rattle.links.specs.Rules as rules;
 ghost use Rattle.links.specs.Rules.{passes, breaks, after, check, oneOf, sameAddress, nameAndStart, committed, bidRule, revealRule, ownedRule, transferRule, rule};
 ghost use Rattle.links.specs.Paper.{stepPaper, partnerOf, Standing, Partnered};
-ghost use Rattle.links.specs.Workers.{Readable, widthOf, Sizes, SpotSizes, SpotPairs, namedAddress, rowOf, rowRule, Alone};
+ghost use Rattle.links.specs.Workers.{Readable, widthOf, Sizes, SpotSizes, SpotPairs, TwoPairs, namedAddress, rowOf, rowRule, Alone};
 
 // An input passes, and its partner is linked or not; or it breaks a rule.
 pub(crate) enum Step {
@@ -106,6 +106,13 @@ fn both_items(input: usize, spent: Spot, made: Spot, width: usize, field: u8) ->
     }
 }
 
+// 15, with the field.
+fn malformed(input: usize, field: u8) -> Step
+    ensures { λ r. ⌜ stepPaper r ≡ breaks 15 (input ∷ field ∷ []) ⌝ }
+{
+    Step::Breaks(Refusal::MalformedCovenant { input, field })
+}
+
 // Item 0 or item 1.
 fn nth(items: Two, k: usize) -> Spot
     ensures { λ r. ⌜ r ≡ pick (eqb k 0) (items .first) (items .second) ⌝ }
@@ -114,6 +121,14 @@ fn nth(items: Two, k: usize) -> Spot
         return items.first;
     }
     items.second
+}
+
+// Items 0 of both covenants, or items 1.
+fn pair_of(input: usize, spent: Two, made: Two, k: usize, width: usize) -> Pair
+    requires { ⌜ (k < 2) × (0 < width) ⌝ }
+    ensures { λ r. ⌜ TwoPairs input spent made k width r ⌝ }
+{
+    both_items(input, nth(spent, k), nth(made, k), width, (k * 2 + 1) as u8)
 }
 
 // A name hash is 32 bytes wide, a start height 4.
@@ -156,18 +171,12 @@ fn name_and_start(tx: &[u8], coins: &[u8], input: usize, spent: Place, made: Pla
         &tx[..],
     );
     let mut k: usize = 0;
-    let answer = 'items: loop {
+    'items: loop {
         if 2 <= k {
             break 'items Step::Passes(true);
         }
         let width = width_of(k);
-        match both_items(
-            input,
-            nth(spent_items, k),
-            nth(made_items, k),
-            width,
-            (k * 2 + 1) as u8,
-        ) {
+        match pair_of(input, spent_items, made_items, k, width) {
             Pair::At {
                 spent: a,
                 created: b,
@@ -185,8 +194,7 @@ fn name_and_start(tx: &[u8], coins: &[u8], input: usize, spent: Place, made: Pla
             }
         }
         k += 1;
-    };
-    answer
+    }
 }
 
 // Whether two outputs have the same address: the version, and the hash.
@@ -221,9 +229,11 @@ fn same_owner(tx: &[u8], coins: &[u8], input: usize, spent: Place, made: Place) 
             if same_address(coins, spent, tx, made) {
                 return Step::Passes(true);
             }
-            Step::Breaks(Refusal::AddressMismatch { input })
+            return Step::Breaks(Refusal::AddressMismatch { input });
         }
-        Step::Breaks(r) => Step::Breaks(r),
+        Step::Breaks(r) => {
+            return Step::Breaks(r);
+        }
     }
 }
 
@@ -245,10 +255,10 @@ fn commitment(tx: &[u8], coins: &[u8], input: usize, spent: Place, made: Place) 
     ensures { λ r. ⌜ stepPaper r ≡ committed input (outputOf (now (coins .entry)) spent) (outputOf (now (tx .entry)) made) ⌝ }
 {
     let Sized::At(a) = sized_item(tx, made.covenant, 2, 32) else {
-        return Step::Breaks(Refusal::MalformedCovenant { input, field: 5 });
+        return malformed(input, 5);
     };
     let Sized::At(b) = sized_item(coins, spent.covenant, 3, 32) else {
-        return Step::Breaks(Refusal::MalformedCovenant { input, field: 6 });
+        return malformed(input, 6);
     };
     let value = made.value;
     if commits(tx, coins, value, a, b) {
@@ -269,8 +279,12 @@ fn bid_row(tx: &[u8], coins: &[u8], input: usize, spent: Place, made: Place) -> 
         return invalid_transition(input, spent, made);
     }
     match name_and_start(tx, coins, input, spent, made) {
-        Step::Passes(_) => commitment(tx, coins, input, spent, made),
-        Step::Breaks(r) => Step::Breaks(r),
+        Step::Passes(_) => {
+            return commitment(tx, coins, input, spent, made);
+        }
+        Step::Breaks(r) => {
+            return Step::Breaks(r);
+        }
     }
 }
 
@@ -279,8 +293,12 @@ fn claimed(named: Step, input: usize) -> Step
     ensures { λ r. ⌜ stepPaper r ≡ after (stepPaper named) (breaks 20 (input ∷ [])) ⌝ }
 {
     match named {
-        Step::Passes(_) => Step::Breaks(Refusal::ClaimCannotRedeem { input }),
-        Step::Breaks(r) => Step::Breaks(r),
+        Step::Passes(_) => {
+            return Step::Breaks(Refusal::ClaimCannotRedeem { input });
+        }
+        Step::Breaks(r) => {
+            return Step::Breaks(r);
+        }
     }
 }
 
@@ -303,9 +321,15 @@ fn reveal_row(tx: &[u8], coins: &[u8], input: usize, spent: Place, made: Place) 
 {
     let to = made.kind;
     match to {
-        kind::REGISTER => same_owner(tx, coins, input, spent, made),
-        kind::REDEEM => redeem(tx, coins, input, spent, made),
-        _ => invalid_transition(input, spent, made),
+        kind::REGISTER => {
+            return same_owner(tx, coins, input, spent, made);
+        }
+        kind::REDEEM => {
+            return redeem(tx, coins, input, spent, made);
+        }
+        _ => {
+            return invalid_transition(input, spent, made);
+        }
     }
 }
 
@@ -350,9 +374,11 @@ fn destination(tx: &[u8], coins: &[u8], input: usize, spent: Place, made: Place)
     match sized_item(coins, spent.covenant, 2, 1) {
         Sized::At(a) => {
             let version = coins[a];
-            named_address(tx, coins, input, spent, made, version)
+            return named_address(tx, coins, input, spent, made, version);
         }
-        Sized::Other => Step::Breaks(Refusal::MalformedCovenant { input, field: 7 }),
+        Sized::Other => {
+            return malformed(input, 7);
+        }
     }
 }
 
@@ -382,9 +408,11 @@ fn named_address(
             if same_address(tx, made, coins, named) {
                 return Step::Passes(true);
             }
-            Step::Breaks(Refusal::TransferDestinationMismatch { input })
+            return Step::Breaks(Refusal::TransferDestinationMismatch { input });
         }
-        Spot::Absent => Step::Breaks(Refusal::MalformedCovenant { input, field: 8 }),
+        Spot::Absent => {
+            return malformed(input, 8);
+        }
     }
 }
 
@@ -394,8 +422,12 @@ fn finalize(tx: &[u8], coins: &[u8], input: usize, spent: Place, made: Place) ->
     ensures { λ r. ⌜ stepPaper r ≡ after (nameAndStart input (outputOf (now (coins .entry)) spent .items) (outputOf (now (tx .entry)) made .items)) (rules.destination input (outputOf (now (coins .entry)) spent) (outputOf (now (tx .entry)) made)) ⌝ }
 {
     match name_and_start(tx, coins, input, spent, made) {
-        Step::Passes(_) => destination(tx, coins, input, spent, made),
-        Step::Breaks(r) => Step::Breaks(r),
+        Step::Passes(_) => {
+            return destination(tx, coins, input, spent, made);
+        }
+        Step::Breaks(r) => {
+            return Step::Breaks(r);
+        }
     }
 }
 
@@ -506,13 +538,27 @@ fn pair_row(
     ensures { λ r. ⌜ stepPaper r ≡ rowRule from input (outputOf (now (coins .entry)) spent) (there (outputOf (now (tx .entry)) made)) ⌝ }
 {
     match from {
-        TableRow::Free => free_row(input, spent, made),
-        TableRow::Bid => bid_row(tx, coins, input, spent, made),
-        TableRow::Reveal => reveal_row(tx, coins, input, spent, made),
-        TableRow::Owned => owned_row(tx, coins, input, spent, made),
-        TableRow::Transfer => transfer_row(tx, coins, input, spent, made),
-        TableRow::Revoke => Step::Breaks(Refusal::RevokedCoinSpent { input }),
-        TableRow::Unknown => unknown_row(input, made.kind),
+        TableRow::Free => {
+            return free_row(input, spent, made);
+        }
+        TableRow::Bid => {
+            return bid_row(tx, coins, input, spent, made);
+        }
+        TableRow::Reveal => {
+            return reveal_row(tx, coins, input, spent, made);
+        }
+        TableRow::Owned => {
+            return owned_row(tx, coins, input, spent, made);
+        }
+        TableRow::Transfer => {
+            return transfer_row(tx, coins, input, spent, made);
+        }
+        TableRow::Revoke => {
+            return Step::Breaks(Refusal::RevokedCoinSpent { input });
+        }
+        TableRow::Unknown => {
+            return unknown_row(input, made.kind);
+        }
     }
 }
 
@@ -528,13 +574,27 @@ fn lone_row(input: usize, kind: u8, from: TableRow) -> Step
     ensures { λ r. ⌜ Alone input kind from (stepPaper r) ⌝ }
 {
     match from {
-        TableRow::Free => Step::Passes(false),
-        TableRow::Bid => missing(input, kind),
-        TableRow::Reveal => missing(input, kind),
-        TableRow::Owned => missing(input, kind),
-        TableRow::Transfer => missing(input, kind),
-        TableRow::Revoke => Step::Breaks(Refusal::RevokedCoinSpent { input }),
-        TableRow::Unknown => Step::Passes(false),
+        TableRow::Free => {
+            return Step::Passes(false);
+        }
+        TableRow::Bid => {
+            return missing(input, kind);
+        }
+        TableRow::Reveal => {
+            return missing(input, kind);
+        }
+        TableRow::Owned => {
+            return missing(input, kind);
+        }
+        TableRow::Transfer => {
+            return missing(input, kind);
+        }
+        TableRow::Revoke => {
+            return Step::Breaks(Refusal::RevokedCoinSpent { input });
+        }
+        TableRow::Unknown => {
+            return Step::Passes(false);
+        }
     }
 }
 
@@ -545,7 +605,11 @@ pub(crate) fn row(tx: &[u8], coins: &[u8], input: usize, spent: Place, partner: 
 {
     let from = row_of(spent.kind);
     match partner {
-        Partner::Output(made) => pair_row(tx, coins, input, spent, made, from),
-        Partner::Missing => lone_row(input, spent.kind, from),
+        Partner::Output(made) => {
+            return pair_row(tx, coins, input, spent, made, from);
+        }
+        Partner::Missing => {
+            return lone_row(input, spent.kind, from);
+        }
     }
 }

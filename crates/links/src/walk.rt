@@ -17,6 +17,8 @@ use sheets::place_at;
 use words::load::load_u64;
 ghost use mathlib.Core.Path.{_≡_};
 ghost use Prim.Native.Nat.{_+_, _-_, _*_, _≤_, _<_, _^_};
+ghost use Rattle.refusal.specs.declared.Refusal.{Refusal};
+ghost use Rattle.links.specs.declared.Links.{Links};
 ghost use Rattle.primitives.specs.Outpoints.{shownOutpoint};
 ghost use Rattle.covenants.specs.Kind.{isLinked};
 ghost use Rattle.sheets.specs.Sheet.{inputAt};
@@ -54,6 +56,13 @@ pub(crate) fn answered(links: Links) -> Verified
     }
 }
 
+// A refusal on a side, without outpoints.
+pub(crate) fn refused(refusal: Refusal, side: u8) -> Verified
+    ensures { λ r. ⌜ verifiedPaper r ≡ plain (linksPaper (Links.Refused refusal side)) ⌝ }
+{
+    answered(Links::Refused { refusal, side })
+}
+
 // The outpoint of an input or a coin.
 pub(crate) fn outpoint_at(s: &[u8], at: usize) -> Outpoint
     ensures { λ r. ⌜ r ≡ shownOutpoint (inputAt (now (s .entry)) at) .1 ⌝ }
@@ -89,14 +98,18 @@ fn partner_at(tx: &[u8], at: usize, left: usize) -> Pair
         };
     }
     match place_at(Cursor { position: at }, tx, 0) {
-        ReadPlace::Output(made, next) => Pair {
-            partner: Partner::Output(made),
-            next: next.position,
-        },
-        ReadPlace::Refused(_) => Pair {
-            partner: Partner::Missing,
-            next: at,
-        },
+        ReadPlace::Output(made, next) => {
+            return Pair {
+                partner: Partner::Output(made),
+                next: next.position,
+            };
+        }
+        ReadPlace::Refused(_) => {
+            return Pair {
+                partner: Partner::Missing,
+                next: at,
+            };
+        }
     }
 }
 
@@ -110,14 +123,16 @@ fn follow(tx: &[u8], coins: &[u8], input: usize, at: usize, output: usize, left:
             let partner = pair.partner;
             match row(tx, coins, input, spent, partner) {
                 Step::Passes(links) => {
-                    Onward::Next(links, is_name(spent.kind), next.position, pair.next)
+                    return Onward::Next(links, is_name(spent.kind), next.position, pair.next);
                 }
-                Step::Breaks(refusal) => Onward::Stop(refusal),
+                Step::Breaks(refusal) => {
+                    return Onward::Stop(refusal);
+                }
             }
         }
         ReadPlace::Refused(stop) => {
             let refusal = stop.refusal;
-            Onward::Stop(refusal)
+            return Onward::Stop(refusal);
         }
     }
 }
@@ -127,6 +142,13 @@ fn must_be_paired(kind: u8) -> bool
     ensures { λ r. ⌜ r ≡ isLinked kind ⌝ }
 {
     is_linked(kind)
+}
+
+// An output past the inputs is refused.
+fn unpaired_output(output: usize, kind: u8) -> Verified
+    ensures { λ r. ⌜ verifiedPaper r ≡ plain (linksPaper (Links.Refused (Refusal.UnpairedLinkedOutput output kind) 0)) ⌝ }
+{
+    refused(Refusal::UnpairedLinkedOutput { output, kind }, 0)
 }
 
 // The outputs past the inputs.
@@ -147,19 +169,13 @@ fn trailing(
         match place_at(c, tx, 0) {
             ReadPlace::Output(made, next) => {
                 if must_be_paired(made.kind) {
-                    return answered(Links::Refused {
-                        refusal: Refusal::UnpairedLinkedOutput {
-                            output: n + k,
-                            kind: made.kind,
-                        },
-                        side: 0,
-                    });
+                    return unpaired_output(n + k, made.kind);
                 }
                 c = next;
             }
             ReadPlace::Refused(stop) => {
                 let refusal = stop.refusal;
-                return answered(Links::Refused { refusal, side: 0 });
+                return refused(refusal, 0);
             }
         }
         k += 1;
@@ -202,7 +218,7 @@ pub(crate) fn walk(tx: &[u8], coins: &[u8], n: usize, outputs: usize) -> Verifie
     let mut output_position: usize = 4 + n * 36;
     let mut linked_outputs: usize = 0;
     let mut name_inputs: usize = 0;
-    let answer = 'inputs: loop {
+    'inputs: loop {
         if n <= i {
             let left = remaining(outputs, n);
             break 'inputs trailing(tx, output_position, n, left, linked_outputs, name_inputs);
@@ -226,11 +242,10 @@ pub(crate) fn walk(tx: &[u8], coins: &[u8], n: usize, outputs: usize) -> Verifie
                 output_position = next_output;
             }
             Onward::Stop(refusal) => {
-                break 'inputs answered(Links::Refused { refusal, side: 0 });
+                break 'inputs refused(refusal, 0);
             }
         }
         input_position += 36;
         i += 1;
-    };
-    answer
+    }
 }

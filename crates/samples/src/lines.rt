@@ -126,12 +126,7 @@ fn height_one() -> [u8; 13]
     record
 }
 
-// "Height 1 with an empty name: 6".
-fn run_height() {
-    let record = height_one();
-    let decoded = decode(NameHash([0u8; 32]), &record);
-    let read = decoded.read;
-    tell(b"height 1 with an empty name: ");
+fn tell_state(read: Moved) {
     match read {
         Moved::To(_) => tell(b"accepted\n"),
         Moved::Refused(stop) => {
@@ -139,6 +134,15 @@ fn run_height() {
             say(b"", b"refused ", number(refusal) as u64, b"\n");
         }
     }
+}
+
+// "Height 1 with an empty name: 6".
+fn run_height() {
+    let record = height_one();
+    let decoded = decode(NameHash([0u8; 32]), &record);
+    let read = decoded.read;
+    tell(b"height 1 with an empty name: ");
+    tell_state(read);
 }
 
 // A sheet of one coin: a Register of value 0 with no address hash and no items.
@@ -165,23 +169,30 @@ fn open_transaction(value: u8) -> [u8; 52]
     tx
 }
 
+// The number, and the input that it carries.
+fn tell_broken(name: &[u8], refusal: Refusal) {
+    let carried = carried_by(refusal);
+    say(name, b": refused ", number(refusal) as u64, b" at ");
+    say(b"", b"", carried.first as u64, b"\n");
+}
+
+fn tell_links(name: &[u8], links: Links) {
+    match links {
+        Links::Linked(_) => {
+            tell(name);
+            tell(b": accepted\n");
+        }
+        Links::Refused { refusal, side: _ } => tell_broken(name, refusal),
+    }
+}
+
 // "Register to Open with unequal values: 22, with equal value and address: 14".
 fn run_links(name: &[u8], value: u8) {
     let tx = open_transaction(value);
     let coins = register_coins();
     let verified = verify_covenant_links(&tx, &coins);
     let links = verified.links;
-    match links {
-        Links::Linked(_) => {
-            tell(name);
-            tell(b": accepted\n");
-        }
-        Links::Refused { refusal, side: _ } => {
-            let carried = carried_by(refusal);
-            say(name, b": refused ", number(refusal) as u64, b" at ");
-            say(b"", b"", carried.first as u64, b"\n");
-        }
-    }
+    tell_links(name, links);
 }
 
 pub(crate) fn run_lines() {

@@ -8,17 +8,17 @@ use Rattle.links.proofs.judged_links.Tie as tie
 is-coinbase-requires : tie.Need-is-coinbase-requires
 is-coinbase-requires c κs = (c .before .before .pre .ins, c .before .before .pre .ends .0, c .before .before .pre .inputs-read)
 
-answered-requires : tie.Need-answered-requires
-answered-requires c κs = search needs
+refused-requires : tie.Need-refused-requires
+refused-requires c κs = search needs
 
 returns : tie.Need-returns
-returns c = c .answered .ensures ∙ ap told (opening.is-coinbase _ _ _ _ _ (c .before .before .before .before .before .pre) (sym (c .before .before .is-coinbase .ensures) ∙ c .before .if1 .taken))
+returns c = c .refused .ensures ∙ ap told (opening.is-coinbase _ _ _ _ _ (c .before .before .before .before .before .pre) (sym (c .before .before .is-coinbase .ensures) ∙ c .before .if1 .taken))
 
-answered-requires-2 : tie.Need-answered-requires-2
-answered-requires-2 c κs = search needs
+refused-requires-2 : tie.Need-refused-requires-2
+refused-requires-2 c κs = search needs
 
 returns-2 : tie.Need-returns-2
-returns-2 c = c .answered2 .ensures ∙ ap told (opening.counts-differ _ _ _ _ _ (c .before .before .before .before .before .before .pre) (sym (c .before .before .before .is-coinbase .ensures) ∙ c .before .before .if1 .left) (c .before .if2 .taken))
+returns-2 c = c .refused2 .ensures ∙ ap told (opening.counts-differ _ _ _ _ _ (c .before .before .before .before .before .before .pre) (sym (c .before .before .before .is-coinbase .ensures) ∙ c .before .before .if1 .left) (c .before .if2 .taken))
 
 walk-requires : tie.Need-walk-requires
 walk-requires c κs = opening.paired _ _ _ _ _ (c .before .before .before .before .before .pre) (c .if2 .left)
@@ -31,9 +31,9 @@ judged-links-spec =
     tie.close
     (tie.spec
     is-coinbase-requires
-    answered-requires
+    refused-requires
     returns
-    answered-requires-2
+    refused-requires-2
     returns-2
     walk-requires
     returns-3)

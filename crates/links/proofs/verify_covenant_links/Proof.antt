@@ -21,26 +21,26 @@ enum-known-n c = search needs
 judged-links-requires : tie.Need-judged-links-requires
 judged-links-requires c κs = opening.both _ _ (told sheetPaper (c .before .before .before .before .before .before .before .judge-transaction .ensures) (c .before .before .before .before .before .inputs .given .1)) (told sheetPaper (c .before .before .before .judge-coins .ensures) (c .before .n .given .1))
 
+returns : tie.Need-returns
+returns c = c .judged-links .ensures ∙ opening.verify-is _ _ (told sheetPaper (c .before .before .before .before .before .before .before .before .judge-transaction .ensures) (c .before .before .before .before .before .before .inputs .given .1)) (told sheetPaper (c .before .before .before .before .judge-coins .ensures) (c .before .before .n .given .1))
+
 enum-known-refusal : tie.Need-enum-known-refusal
 enum-known-refusal c = search needs
 
-answered-requires : tie.Need-answered-requires
-answered-requires c κs = search needs
+refused-requires : tie.Need-refused-requires
+refused-requires c κs = search needs
+
+returns-2 : tie.Need-returns-2
+returns-2 c = c .refused .ensures ∙ opening.coins-refused _ _ (told sheetPaper (c .before .before .before .before .before .before .before .before .judge-transaction .ensures) (c .before .before .before .before .before .before .inputs .given .1)) (told sheetPaper (c .before .before .before .before .judge-coins .ensures) (c .before .before .refusal .given .1))
 
 enum-known-refusal-2 : tie.Need-enum-known-refusal-2
 enum-known-refusal-2 c = search needs
 
-answered-requires-2 : tie.Need-answered-requires-2
-answered-requires-2 c κs = search needs
-
-returns : tie.Need-returns
-returns c = c .judged-links .ensures ∙ opening.verify-is _ _ (told sheetPaper (c .before .before .before .before .before .before .before .before .judge-transaction .ensures) (c .before .before .before .before .before .before .inputs .given .1)) (told sheetPaper (c .before .before .before .before .judge-coins .ensures) (c .before .before .n .given .1))
-
-returns-2 : tie.Need-returns-2
-returns-2 c = c .answered .ensures ∙ opening.coins-refused _ _ (told sheetPaper (c .before .before .before .before .before .before .before .before .judge-transaction .ensures) (c .before .before .before .before .before .before .inputs .given .1)) (told sheetPaper (c .before .before .before .before .judge-coins .ensures) (c .before .before .refusal .given .1))
+refused-requires-2 : tie.Need-refused-requires-2
+refused-requires-2 c κs = search needs
 
 returns-3 : tie.Need-returns-3
-returns-3 c = c .answered2 .ensures ∙ opening.transaction-refused _ _ (told sheetPaper (c .before .before .before .before .judge-transaction .ensures) (c .before .before .refusal2 .given .1))
+returns-3 c = c .refused2 .ensures ∙ opening.transaction-refused _ _ (told sheetPaper (c .before .before .before .before .judge-transaction .ensures) (c .before .before .refusal2 .given .1))
 
 pub verify-covenant-links-spec : {M : Type 1} → statement M
 verify-covenant-links-spec =
@@ -51,10 +51,10 @@ verify-covenant-links-spec =
     judge-coins-requires
     enum-known-n
     judged-links-requires
-    enum-known-refusal
-    answered-requires
-    enum-known-refusal-2
-    answered-requires-2
     returns
+    enum-known-refusal
+    refused-requires
     returns-2
+    enum-known-refusal-2
+    refused-requires-2
     returns-3)

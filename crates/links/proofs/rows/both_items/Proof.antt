@@ -1,6 +1,5 @@
 use borrow.Author.Needs.{needs}
-use native.Mathlib.Omega.{arith}
-use mathlib.Core.Path.{_≡_, refl, ap, sym, subst, _∙_}
+use mathlib.Core.Path.{subst}
 use Rattle.words.proofs.Le.{part-long}
 use Rattle.links.specs.Workers.{Sizes}
 use Rattle.links.proofs.Comparing.{agree-first, agree-second, agree-both}

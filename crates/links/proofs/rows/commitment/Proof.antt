@@ -1,7 +1,6 @@
 use borrow.Author.Needs.{needs}
-use native.Mathlib.Omega.{arith}
-use mathlib.Core.Path.{_≡_, refl, ap, sym, _∙_}
-use mathlib.Core.Path.{_≡_, refl, ap, sym, subst, _∙_}
+use mathlib.Core.Path.{sym, _∙_}
+use mathlib.Core.Path.{sym, subst, _∙_}
 use Rattle.words.proofs.Le.{part-long}
 use Rattle.links.specs.Workers.{Sizes}
 use Rattle.links.proofs.Judging.{open-first, open-second, open-other, open-above, open-fine}
@@ -9,6 +8,9 @@ use Rattle.links.proofs.rows.commitment.Statement.{statement}
 use Rattle.links.proofs.rows.commitment.Tie as tie
 use Rattle.links.proofs.rows.commitment.Reads as reads
 use Rattle.links.proofs.rows.commitment.Lts as lts
+use Rattle.links.proofs.rows.commits.Reads as commits-reads
+use Rattle.links.proofs.rows.malformed.Reads as malformed-reads
+use Rattle.links.proofs.rows.sized_item.Reads as sized-item-reads
 
 sized-item-requires : tie.Need-sized-item-requires
 sized-item-requires c κs = search needs
@@ -19,8 +21,11 @@ enum-known-a c = search needs
 enum-told : tie.Need-enum-told
 enum-told c = search needs
 
+malformed-requires : tie.Need-malformed-requires
+malformed-requires c κs = search needs
+
 returns : tie.Need-returns
-returns c = open-first _ _ _ (subst (Sizes (c .before .before .before .before .before .args .tx .now) (c .before .before .before .before .before .args .made .covenant) 2 32) (c .enum-told .given .1) (c .before .before .sized-item .ensures))
+returns c = c .malformed .ensures ∙ open-first _ _ _ (subst (Sizes (c .before .before .before .before .before .before .args .tx .now) (c .before .before .before .before .before .before .args .made .covenant) 2 32) (c .before .enum-told .given .1) (c .before .before .before .sized-item .ensures))
 
 sized-item-requires-2 : tie.Need-sized-item-requires-2
 sized-item-requires-2 c κs = search needs
@@ -31,9 +36,12 @@ enum-known-b c = search needs
 enum-told-2 : tie.Need-enum-told-2
 enum-told-2 c = search needs
 
+malformed-requires-2 : tie.Need-malformed-requires-2
+malformed-requires-2 c κs = search needs
+
 returns-2 : tie.Need-returns-2
-returns-2 c = let x = subst (Sizes (c .before .before .before .before .before .before .before .before .before .args .tx .now) (c .before .before .before .before .before .before .before .before .before .args .made .covenant) 2 32) (c .before .before .before .before .a .given .1) (c .before .before .before .before .before .before .sized-item .ensures) in
-    open-second _ _ _ (x .1) (part-long _ _ _ (x .0)) (subst (Sizes (c .before .before .before .before .before .before .before .before .before .args .coins .now) (c .before .before .before .before .before .before .before .before .before .args .spent .covenant) 3 32) (c .enum-told2 .given .1) (c .before .before .sized-item2 .ensures))
+returns-2 c = let x = subst (Sizes (c .before .before .before .before .before .before .before .before .before .before .args .tx .now) (c .before .before .before .before .before .before .before .before .before .before .args .made .covenant) 2 32) (c .before .before .before .before .before .a .given .1) (c .before .before .before .before .before .before .before .sized-item .ensures) in
+    c .malformed2 .ensures ∙ open-second _ _ _ (x .1) (part-long _ _ _ (x .0)) (subst (Sizes (c .before .before .before .before .before .before .before .before .before .before .args .coins .now) (c .before .before .before .before .before .before .before .before .before .before .args .spent .covenant) 3 32) (c .before .enum-told2 .given .1) (c .before .before .before .sized-item2 .ensures))
 
 commits-requires : tie.Need-commits-requires
 commits-requires c κs = let x = subst (Sizes (c .before .before .before .before .before .before .before .before .before .before .before .args .tx .now) (c .before .before .before .before .before .before .before .before .before .before .before .args .made .covenant) 2 32) (c .before .before .before .before .before .before .a .given .1) (c .before .before .before .before .before .before .before .before .sized-item .ensures) in
@@ -62,10 +70,12 @@ commitment-spec =
     sized-item-requires
     enum-known-a
     enum-told
+    malformed-requires
     returns
     sized-item-requires-2
     enum-known-b
     enum-told-2
+    malformed-requires-2
     returns-2
     commits-requires
     returns-3

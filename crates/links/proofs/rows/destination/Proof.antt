@@ -1,7 +1,7 @@
 use borrow.Author.Needs.{needs}
 use native.Mathlib.Omega.{arith}
-use mathlib.Core.Path.{_≡_, refl, ap, sym, _∙_}
-use mathlib.Core.Path.{_≡_, refl, ap, sym, subst, _∙_}
+use mathlib.Core.Path.{_∙_}
+use mathlib.Core.Path.{subst, _∙_}
 use Rattle.words.proofs.Le.{part-long}
 use Rattle.links.specs.Workers.{Sizes}
 use Rattle.covenants.proofs.Parts.{first-byte}
@@ -10,6 +10,9 @@ use Rattle.links.proofs.rows.destination.Statement.{statement}
 use Rattle.links.proofs.rows.destination.Tie as tie
 use Rattle.links.proofs.rows.destination.Reads as reads
 use Rattle.links.proofs.rows.destination.Lts as lts
+use Rattle.links.proofs.rows.malformed.Reads as malformed-reads
+use Rattle.links.proofs.rows.named_address.Reads as named-address-reads
+use Rattle.links.proofs.rows.sized_item.Reads as sized-item-reads
 
 sized-item-requires : tie.Need-sized-item-requires
 sized-item-requires c κs = search needs
@@ -23,15 +26,18 @@ shared-slice-read-version c = let x = subst (Sizes (c .before .before .before .b
 named-address-requires : tie.Need-named-address-requires
 named-address-requires c κs = search needs
 
-enum-told : tie.Need-enum-told
-enum-told c = search needs
-
 returns : tie.Need-returns
 returns c = let x = subst (Sizes (c .before .before .before .before .before .before .before .before .args .coins .now) (c .before .before .before .before .before .before .before .before .args .spent .covenant) 2 1) (c .before .before .before .a .given .1) (c .before .before .before .before .before .sized-item .ensures) in
     c .named-address .ensures ∙ destined-then _ _ _ (x .1) (part-long _ _ _ (x .0)) (first-byte _ _ (x .0))
 
+enum-told : tie.Need-enum-told
+enum-told c = search needs
+
+malformed-requires : tie.Need-malformed-requires
+malformed-requires c κs = search needs
+
 returns-2 : tie.Need-returns-2
-returns-2 c = destined-other _ _ _ (subst (Sizes (c .before .before .before .before .before .args .coins .now) (c .before .before .before .before .before .args .spent .covenant) 2 1) (c .enum-told .given .1) (c .before .before .sized-item .ensures))
+returns-2 c = c .malformed .ensures ∙ destined-other _ _ _ (subst (Sizes (c .before .before .before .before .before .before .args .coins .now) (c .before .before .before .before .before .before .args .spent .covenant) 2 1) (c .before .enum-told .given .1) (c .before .before .before .sized-item .ensures))
 
 pub destination-spec : {M : Type 1} → statement M
 destination-spec =
@@ -41,6 +47,7 @@ destination-spec =
     enum-known-a
     shared-slice-read-version
     named-address-requires
-    enum-told
     returns
+    enum-told
+    malformed-requires
     returns-2)

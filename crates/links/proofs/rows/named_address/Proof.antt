@@ -1,6 +1,6 @@
 use borrow.Author.Needs.{needs}
 use native.Mathlib.Omega.{arith}
-use mathlib.Core.Path.{_≡_, refl, ap, sym, _∙_}
+use mathlib.Core.Path.{sym, _∙_}
 use Rattle.sheets.specs.Sheet.{outputOf}
 use Rattle.refusal.proofs.Outcomes.{told}
 use Rattle.covenants.specs.Paper.{spotPaper}
@@ -10,6 +10,9 @@ use Rattle.links.proofs.rows.named_address.Statement.{statement}
 use Rattle.links.proofs.rows.named_address.Tie as tie
 use Rattle.links.proofs.rows.named_address.Reads as reads
 use Rattle.links.proofs.rows.named_address.Lts as lts
+use Rattle.covenants.proofs.items.find.Reads as find-reads
+use Rattle.links.proofs.rows.malformed.Reads as malformed-reads
+use Rattle.links.proofs.rows.same_address.Reads as same-address-reads
 
 find-requires : tie.Need-find-requires
 find-requires c κs = search needs
@@ -24,15 +27,18 @@ returns : tie.Need-returns
 returns c = let e = told spotPaper (c .before .before .before .before .before .before .find .ensures) (c .before .before .before .before .start .given .1) in
     named-there (c .before .before .before .before .before .before .before .before .before .args .input) (outputOf (c .before .before .before .before .before .before .before .before .before .args .coins .now) (c .before .before .before .before .before .before .before .before .before .args .spent)) (outputOf (c .before .before .before .before .before .before .before .before .before .args .tx .now) (c .before .before .before .before .before .before .before .before .before .args .made)) (c .before .before .before .before .before .before .before .before .before .args .version) (item-counted _ _ _ (c .before .before .before .before .before .before .before .before .before .pre .0 .1 .2) e) (item-there _ _ _ (c .before .before .before .before .before .before .before .before .before .pre .0 .1 .2) e) (sym (c .before .same-address .ensures) ∙ c .if1 .taken)
 
-enum-told : tie.Need-enum-told
-enum-told c = search needs
-
 returns-2 : tie.Need-returns-2
 returns-2 c = let e = told spotPaper (c .before .before .before .before .before .before .find .ensures) (c .before .before .before .before .start .given .1) in
     named-there (c .before .before .before .before .before .before .before .before .before .args .input) (outputOf (c .before .before .before .before .before .before .before .before .before .args .coins .now) (c .before .before .before .before .before .before .before .before .before .args .spent)) (outputOf (c .before .before .before .before .before .before .before .before .before .args .tx .now) (c .before .before .before .before .before .before .before .before .before .args .made)) (c .before .before .before .before .before .before .before .before .before .args .version) (item-counted _ _ _ (c .before .before .before .before .before .before .before .before .before .pre .0 .1 .2) e) (item-there _ _ _ (c .before .before .before .before .before .before .before .before .before .pre .0 .1 .2) e) (sym (c .before .same-address .ensures) ∙ c .if1 .left)
 
+enum-told : tie.Need-enum-told
+enum-told c = search needs
+
+malformed-requires : tie.Need-malformed-requires
+malformed-requires c κs = search needs
+
 returns-3 : tie.Need-returns-3
-returns-3 c = named-absent (c .before .before .before .before .before .args .input) (outputOf (c .before .before .before .before .before .args .coins .now) (c .before .before .before .before .before .args .spent)) (outputOf (c .before .before .before .before .before .args .tx .now) (c .before .before .before .before .before .args .made)) (c .before .before .before .before .before .args .version) (item-few _ _ _ (c .before .before .before .before .before .pre .0 .1 .2) (told spotPaper (c .before .before .find .ensures) (c .enum-told .given .1)))
+returns-3 c = c .malformed .ensures ∙ named-absent (c .before .before .before .before .before .before .args .input) (outputOf (c .before .before .before .before .before .before .args .coins .now) (c .before .before .before .before .before .before .args .spent)) (outputOf (c .before .before .before .before .before .before .args .tx .now) (c .before .before .before .before .before .before .args .made)) (c .before .before .before .before .before .before .args .version) (item-few _ _ _ (c .before .before .before .before .before .before .pre .0 .1 .2) (told spotPaper (c .before .before .before .find .ensures) (c .before .enum-told .given .1)))
 
 pub named-address-spec : {M : Type 1} → statement M
 named-address-spec =
@@ -42,6 +48,7 @@ named-address-spec =
     enum-known-start
     same-address-requires
     returns
-    enum-told
     returns-2
+    enum-told
+    malformed-requires
     returns-3)

@@ -1,5 +1,4 @@
 use borrow.Author.Needs.{needs}
-use native.Mathlib.Omega.{arith}
 use Rattle.refusal.proofs.Outcomes.{told}
 use Rattle.covenants.specs.Paper.{spotPaper}
 use Rattle.sheets.proofs.Items.{item-fits, item-other, item-none}

@@ -1,6 +1,4 @@
-use borrow.Author.Needs.{needs}
-use native.Mathlib.Omega.{arith}
-use mathlib.Core.Path.{_≡_, refl, ap, sym, _∙_}
+use mathlib.Core.Path.{ap, sym}
 use Rattle.links.specs.Workers.{rowOf}
 use borrow.Author.Tests.{ne-eqb}
 use Rattle.links.proofs.rows.row_of.Statement.{statement}

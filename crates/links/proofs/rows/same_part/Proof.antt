@@ -1,9 +1,7 @@
 use borrow.Author.Needs.{needs}
 use native.Mathlib.Omega.{arith}
-use mathlib.Core.Path.{_≡_, refl, ap, sym, _∙_}
-use lib.ListN.{take, drop}
-use Rattle.words.specs.Sameness.{same}
-use Prim.Native.Nat.{ℕ, _+_, _-_}
+use mathlib.Core.Path.{_≡_}
+use Prim.Native.Nat.{_+_, _-_}
 use Rattle.links.proofs.rows.same_part.Statement.{statement}
 use Rattle.links.proofs.rows.same_part.Tie as tie
 use Rattle.links.proofs.rows.same_part.Reads as reads

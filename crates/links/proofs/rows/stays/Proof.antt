@@ -1,6 +1,3 @@
-use borrow.Author.Needs.{needs}
-use native.Mathlib.Omega.{arith}
-use mathlib.Core.Path.{_≡_, refl, ap, sym, _∙_}
 use borrow.Author.Tests.{eq-eqb, ne-eqb}
 use Rattle.links.proofs.Judging.{one-of-one}
 use Rattle.links.proofs.rows.stays.Statement.{statement}

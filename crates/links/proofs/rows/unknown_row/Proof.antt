@@ -1,6 +1,4 @@
 use borrow.Author.Needs.{needs}
-use native.Mathlib.Omega.{arith}
-use mathlib.Core.Path.{_≡_, refl, ap, sym, _∙_}
 use Rattle.links.proofs.rows.unknown_row.Statement.{statement}
 use Rattle.links.proofs.rows.unknown_row.Tie as tie
 use Rattle.links.proofs.rows.unknown_row.Reads as reads

@@ -25,19 +25,19 @@ enum-known-links c = search needs
 is-name-requires : tie.Need-is-name-requires
 is-name-requires c κs = search needs
 
-enum-known-refusal : tie.Need-enum-known-refusal
-enum-known-refusal c = search needs
-
-enum-known-stop : tie.Need-enum-known-stop
-enum-known-stop c = search needs
-
 returns : tie.Need-returns
 unfolding turnAt
 returns c = rw (← c .before .before .before .before .before .before .before .before .before .place-at .ensures, c .before .before .before .before .before .before .before .spent .given .1, ← c .before .before .before .before .before .partner-at .ensures .0, ← c .before .before .before .before .row .ensures, c .before .before .links .given .1, ← c .is-name .ensures)
 
+enum-known-refusal : tie.Need-enum-known-refusal
+enum-known-refusal c = search needs
+
 returns-2 : tie.Need-returns-2
 unfolding turnAt
 returns-2 c = rw (← c .before .before .before .before .before .before .before .before .place-at .ensures, c .before .before .before .before .before .before .spent .given .1, ← c .before .before .before .before .partner-at .ensures .0, ← c .before .before .before .row .ensures, c .before .refusal .given .1)
+
+enum-known-stop : tie.Need-enum-known-stop
+enum-known-stop c = search needs
 
 returns-3 : tie.Need-returns-3
 unfolding turnAt
@@ -53,8 +53,8 @@ follow-spec =
     row-requires
     enum-known-links
     is-name-requires
-    enum-known-refusal
-    enum-known-stop
     returns
+    enum-known-refusal
     returns-2
+    enum-known-stop
     returns-3)

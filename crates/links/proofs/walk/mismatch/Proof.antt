@@ -1,6 +1,4 @@
 use borrow.Author.Needs.{needs}
-use native.Mathlib.Omega.{arith}
-use mathlib.Core.Path.{_≡_, refl, ap, sym, _∙_}
 use Rattle.primitives.specs.declared.Outpoint.{Outpoint}
 use Rattle.links.specs.Rules.{differs}
 use Rattle.links.specs.Verify.{told}

@@ -1,5 +1,4 @@
 use borrow.Author.Needs.{needs}
-use native.Mathlib.Omega.{arith}
 use mathlib.Core.Path.{ap, sym, _∙_}
 use Prim.Native.Nat.{_-_}
 use Rattle.refusal.proofs.Outcomes.{told}
@@ -29,20 +28,20 @@ enum-known-made c = search needs
 must-be-paired-requires : tie.Need-must-be-paired-requires Inv-loop μ-loop
 must-be-paired-requires c κs = search needs
 
-add-t16 : tie.Need-add-t16 Inv-loop μ-loop
-add-t16 c = omega (arith, c .before .before .before .before .before .before .before .before .before .pre .0)
+add-unpaired-output : tie.Need-add-unpaired-output Inv-loop μ-loop
+add-unpaired-output c = search needs
 
-answered-requires : tie.Need-answered-requires Inv-loop μ-loop
-answered-requires c κs = search needs
+unpaired-output-requires : tie.Need-unpaired-output-requires Inv-loop μ-loop
+unpaired-output-requires c κs = search needs
 
 returns : tie.Need-returns Inv-loop μ-loop
-returns c = c .answered .ensures ∙ ap verify.told (stopped _ _ _ _ (c .before .before .before .before .before .before .before .before .loop .inv) (c .before .before .before .before .before .before .before .loop-test .taken) (told placePaper (c .before .before .before .before .before .before .place-at .ensures) (c .before .before .before .before .made .given .1)) (sym (c .before .before .must-be-paired .ensures) ∙ c .before .if1 .taken))
+returns c = c .unpaired-output .ensures ∙ ap verify.told (stopped _ _ _ _ (c .before .before .before .before .before .before .before .before .loop .inv) (c .before .before .before .before .before .before .before .loop-test .taken) (told placePaper (c .before .before .before .before .before .before .place-at .ensures) (c .before .before .before .before .made .given .1)) (sym (c .before .before .must-be-paired .ensures) ∙ c .before .if1 .taken))
 
 enum-known-stop : tie.Need-enum-known-stop Inv-loop μ-loop
 enum-known-stop c = search needs
 
-answered-requires-2 : tie.Need-answered-requires-2 Inv-loop μ-loop
-answered-requires-2 c κs = search needs
+refused-requires : tie.Need-refused-requires Inv-loop μ-loop
+refused-requires c κs = search needs
 
 returns-2 : tie.Need-returns-2 Inv-loop μ-loop
 returns-2 c = dead _ _ _ _ (c .before .before .before .before .before .before .loop .inv) (c .before .before .before .before .before .loop-test .taken) (told placePaper (c .before .before .before .before .place-at .ensures) (c .before .before .stop .given .1))
@@ -56,11 +55,11 @@ loop-less c = search needs
 loop-again : tie.Need-loop-again Inv-loop μ-loop
 loop-again c = more _ _ _ _ (c .before .before .before .before .before .before .before .loop .inv) (c .before .before .before .before .before .before .loop-test .taken) (told placePaper (c .before .before .before .before .before .place-at .ensures) (c .before .before .before .made .given .1)) (sym (c .before .must-be-paired .ensures) ∙ c .if1 .left)
 
-answered-requires-3 : tie.Need-answered-requires-3 Inv-loop μ-loop
-answered-requires-3 c κs = search needs
+answered-requires : tie.Need-answered-requires Inv-loop μ-loop
+answered-requires c κs = search needs
 
 returns-3 : tie.Need-returns-3 Inv-loop μ-loop
-returns-3 c = c .answered3 .ensures ∙ ap verify.told (ended _ _ _ _ (c .before .before .loop .inv) (c .before .loop-test .left))
+returns-3 c = c .answered .ensures ∙ ap verify.told (ended _ _ _ _ (c .before .before .loop .inv) (c .before .loop-test .left))
 
 pub trailing-spec : {M : Type 1} → statement M
 trailing-spec =
@@ -72,14 +71,14 @@ trailing-spec =
     place-at-requires
     enum-known-made
     must-be-paired-requires
-    add-t16
-    answered-requires
+    add-unpaired-output
+    unpaired-output-requires
     returns
     enum-known-stop
-    answered-requires-2
+    refused-requires
     returns-2
     add-k
     loop-less
     loop-again
-    answered-requires-3
+    answered-requires
     returns-3)

@@ -1,6 +1,6 @@
 use borrow.Author.Needs.{needs}
 use native.Mathlib.Omega.{arith}
-use mathlib.Core.Path.{_≡_, refl, ap, sym, _∙_}
+use mathlib.Core.Path.{refl, ap, sym, _∙_}
 use Prim.Native.Nat.{ℕ, _+_, _-_, _*_}
 use Rattle.refusal.proofs.Outcomes.{told}
 use Rattle.links.specs.Rules.{linksFrom}
@@ -12,7 +12,7 @@ use Rattle.links.proofs.walk.walk.Statement.{statement}
 use Rattle.links.proofs.walk.walk.Tie as tie
 use Rattle.links.proofs.walk.walk.Reads as reads
 use Rattle.links.proofs.walk.walk.Lts as lts
-use Rattle.links.proofs.walk.answered.Reads as answered-reads
+use Rattle.links.proofs.walk.refused.Reads as refused-reads
 use Rattle.links.proofs.walk.count.Reads as count-reads
 use Rattle.links.proofs.walk.follow.Reads as follow-reads
 use Rattle.links.proofs.walk.mismatch.Reads as mismatch-reads
@@ -118,8 +118,8 @@ add-name-inputs c = omega (arith, c .before .before .before .before .before .bef
 enum-known-refusal : tie.Need-enum-known-refusal Inv-loop μ-loop Inv-inputs μ-inputs
 enum-known-refusal c = search needs
 
-answered-requires : tie.Need-answered-requires Inv-loop μ-loop Inv-inputs μ-inputs
-answered-requires c κs = search needs
+refused-requires : tie.Need-refused-requires Inv-loop μ-loop Inv-inputs μ-inputs
+refused-requires c κs = search needs
 
 add-input-position : tie.Need-add-input-position Inv-loop μ-loop Inv-inputs μ-inputs
 add-input-position c = let bd = walking.bounds _ _ _ _ (c .before .before .before .before .before .before .before .before .before .before .before .before .before .inputs .inv) (c .before .before .before .before .before .before .before .before .before .before .before .before .if1 .left) in omega (arith, bd)
@@ -156,7 +156,7 @@ returns-4 c = let bd = walking.bounds _ _ _ _ (c .before .before .before .before
     let word = sym (c .before .before .before .before .before .before .before .before .load-u643 .ensures) ∙ c .before .before .before .before .before .before .if3 .left ∙ c .before .before .before .before .before .before .before .load-u644 .ensures in
     let same = alike.all-same _ _ (λ k. c .before .before .before .before .before .before .before .before .before .before .before .before .before .before .shared-slice-known .given k .fits) (λ k. c .before .before .before .before .before .before .before .before .before .before .before .before .before .shared-slice-known2 .given k .fits) (c .before .before .before .before .before .before .before .before .before .before .before .before .inputs .inv .long) _ _ bd (c .before .before .before .before .before .before .before .before .before .before .loop .inv) (omega (arith, c .before .before .before .before .before .before .before .before .before .loop-test .left)) word in
     let turn = (rw (c .before .before .before .before .before .remaining2 .ensures) at (told onwardPaper (c .before .before .before .before .follow .ensures) (c .before .before .refusal .given .1))) in
-    c .answered .ensures ∙ ap verify.told (walking.stopped _ _ _ _ (c .before .before .before .before .before .before .before .before .before .before .before .before .inputs .inv) (c .before .before .before .before .before .before .before .before .before .before .before .if1 .left) refl refl same turn)
+    c .refused .ensures ∙ ap verify.told (walking.stopped _ _ _ _ (c .before .before .before .before .before .before .before .before .before .before .before .before .inputs .inv) (c .before .before .before .before .before .before .before .before .before .before .before .if1 .left) refl refl same turn)
 
 pub walk-spec : {M : Type 1} → statement M
 walk-spec =
@@ -194,7 +194,7 @@ walk-spec =
     count-requires-2
     add-name-inputs
     enum-known-refusal
-    answered-requires
+    refused-requires
     add-input-position
     add-i
     inputs-less
