@@ -172,14 +172,7 @@ pub extern "C" fn turgamysk_covenant_decode_from(
     ensures { λ _. ⌜ now (starts .exit) ≡ directoryOf (covenantAt limit (now (bytes .entry)) position) .starts ⌝ }
     ensures { λ _. ⌜ now (lens .exit) ≡ directoryOf (covenantAt limit (now (bytes .entry)) position) .lens ⌝ }
 {
-    let decoded = Covenant::decode_from_with_limit(Cursor { position }, bytes, limit);
-    let covenant = decoded.covenant;
-    let firsts = covenant.starts;
-    let sizes = covenant.lens;
-    *starts = firsts;
-    *lens = sizes;
-    let read = decoded.read;
-    covenant_answer(read)
+    covenant_answer(Covenant::decode_from_into(Cursor { position }, bytes, limit, starts, lens))
 }
 
 #[no_mangle]

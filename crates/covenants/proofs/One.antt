@@ -8,7 +8,8 @@ use Rattle.encoding.specs.Paper.{putPaper}
 use Rattle.encoding.specs.declared.put.Put.{Put}
 use Rattle.encoding.proofs.Same.{put-same}
 use Rattle.covenants.specs.Kind.{isName, isLinked, isUnspendable}
-use Rattle.covenants.specs.Covenant.{covenantAt, wholeCovenant, skimmed}
+use Rattle.refusal.specs.Outcome.{Outcome}
+use Rattle.covenants.specs.Covenant.{Reading, covenantAt, wholeCovenant, skimmed}
 use Rattle.covenants.specs.Written.{sizeAnswer, encodeAnswer, encodeContent}
 use Rattle.covenants.specs.Items.{directoryItem, seekAt, wide, numberIn}
 use Rattle.covenants.specs.Run.{runSaid, runOf, stepOf}
@@ -51,12 +52,18 @@ decode-from-one s at e f = decoded-same (one e f)
 pub decode-one : (s : List ℕ) {d d′ : Decoded} → decodedPaper d ≡ shown (wholeCovenant s) → decodedPaper d′ ≡ shown (wholeCovenant s) → d ≡ d′
 decode-one s e f = decoded-same (one e f)
 
--- what `decode_into` says: the answer, and both lent arrays
-abbrev Lends : List ℕ → ReadCovenant → List ℕ → List ℕ → Type 0
-Lends s r starts lens = (covenantPaper r ≡ skimmed (wholeCovenant s)) × (starts ≡ directoryOf (wholeCovenant s) .starts) × (lens ≡ directoryOf (wholeCovenant s) .lens)
+-- what a decoder into lent arrays says: the answer, and both arrays
+abbrev Lends : Outcome Reading → ReadCovenant → List ℕ → List ℕ → Type 0
+Lends o r starts lens = (covenantPaper r ≡ skimmed o) × (starts ≡ directoryOf o .starts) × (lens ≡ directoryOf o .lens)
 
-pub decode-into-one : (s : List ℕ) {r r′ : ReadCovenant} {a a′ b b′ : List ℕ} → Lends s r a b → Lends s r′ a′ b′ → (r ≡ r′) × (a ≡ a′) × (b ≡ b′)
-decode-into-one s e f = (covenant-same (one (e .0) (f .0)), one (e .1) (f .1), one (e .2) (f .2))
+lends-one : (o : Outcome Reading) {r r′ : ReadCovenant} {a a′ b b′ : List ℕ} → Lends o r a b → Lends o r′ a′ b′ → (r ≡ r′) × (a ≡ a′) × (b ≡ b′)
+lends-one o e f = (covenant-same (one (e .0) (f .0)), one (e .1) (f .1), one (e .2) (f .2))
+
+pub decode-from-into-one : (limit : ℕ) (s : List ℕ) (at : ℕ) {r r′ : ReadCovenant} {a a′ b b′ : List ℕ} → Lends (covenantAt limit s at) r a b → Lends (covenantAt limit s at) r′ a′ b′ → (r ≡ r′) × (a ≡ a′) × (b ≡ b′)
+decode-from-into-one limit s at = lends-one (covenantAt limit s at)
+
+pub decode-into-one : (s : List ℕ) {r r′ : ReadCovenant} {a a′ b b′ : List ℕ} → Lends (wholeCovenant s) r a b → Lends (wholeCovenant s) r′ a′ b′ → (r ≡ r′) × (a ≡ a′) × (b ≡ b′)
+decode-into-one s = lends-one (wholeCovenant s)
 
 -- ---- an item at a width
 

@@ -1,8 +1,8 @@
 -- A directory that is filled item by item: the workers' words, which no public contract has.
 use mathlib.Core.Path.{_≡_}
-use Prim.Native.Nat.{ℕ, _-_, _≤_}
+use Prim.Native.Nat.{ℕ, _+_, _-_, _≤_, _<_}
 use mathlib.Core.List.{List, [], _++_, map}
-use lib.ListN.{length}
+use lib.ListN.{length, getD}
 use Rattle.refusal.specs.Outcome.{Outcome, ok, err, then, manyAt}
 use Rattle.covenants.specs.Paper.{listed}
 
@@ -27,3 +27,16 @@ pub record Filling (read : ℕ → Outcome (ℕ × ℕ)) (start count from : ℕ
   pub firsts : starts ≡ listed (starts-of done)
   pub sizes : lens ≡ listed (lens-of done)
   pub rest : then (manyAt read (count - i) at) (λ more end. ok (done ++ more) end) ≡ manyAt read count from
+
+-- an item whose length is one byte, and which ends by a place
+pub record Short (s : List ℕ) (end at next : ℕ) : Type 0 where
+  pub low : getD s at 0 < 253
+  pub goes : next ≡ at + 1 + getD s at 0
+  pub fits : next ≤ end
+
+-- a covenant with two items at least, both there, whose count and whose items' lengths are one byte each
+pub record TwoShort (s : List ℕ) (at : ℕ) : Type 0 where
+  pub several : 2 ≤ getD s (at + 1) 0
+  pub few : getD s (at + 1) 0 < 253
+  pub first : Short s (length s) (at + 2) (at + 3 + getD s (at + 2) 0)
+  pub second : Short s (length s) (at + 3 + getD s (at + 2) 0) (at + 3 + getD s (at + 2) 0 + 1 + getD s (at + 3 + getD s (at + 2) 0) 0)

@@ -76,41 +76,6 @@ fn fill(
     }
 }
 
-// A covenant under an allowance, its directory in two lent arrays.
-fn decode_at(
-    c: Cursor,
-    s: &[u8],
-    limit: usize,
-    starts: &mut [usize; 1000],
-    lens: &mut [usize; 1000],
-) -> ReadCovenant
-    ensures { λ r. ⌜ covenantPaper r ≡ skimmed (covenantAt limit (now (s .entry)) (c .position)) ⌝ }
-    ensures { λ _. ⌜ now (starts .exit) ≡ directoryOf (covenantAt limit (now (s .entry)) (c .position)) .starts ⌝ }
-    ensures { λ _. ⌜ now (lens .exit) ≡ directoryOf (covenantAt limit (now (s .entry)) (c .position)) .lens ⌝ }
-{
-    let allowance = capped(limit);
-    match opened(c, s, allowance) {
-        ReadHead::Head { kind, count, next } => {
-            match fill(next, s, c.position, allowance, count, starts, lens) {
-                Moved::To(end) => {
-                    let used = end.position - c.position;
-                    ReadCovenant::Accepted {
-                        kind,
-                        count,
-                        used,
-                        next: end,
-                    }
-                }
-                Moved::Refused(stop) => ReadCovenant::Refused(stop),
-            }
-        }
-        ReadHead::Refused(stop) => {
-            clear(starts, lens);
-            ReadCovenant::Refused(stop)
-        }
-    }
-}
-
 // What was read, beside the covenant that it says, with this directory.
 fn assembled(read: ReadCovenant, starts: [usize; 1000], lens: [usize; 1000]) -> Decoded
     ensures { λ d. ⌜ ((o : Outcome Reading) → covenantPaper read ≡ skimmed o → starts ≡ directoryOf o .starts → lens ≡ directoryOf o .lens → decodedPaper d ≡ shown o) ⌝ }
@@ -143,13 +108,48 @@ fn assembled(read: ReadCovenant, starts: [usize; 1000], lens: [usize; 1000]) -> 
 }
 
 impl Covenant {
+    // A covenant under an allowance, its directory in two lent arrays.
+    pub fn decode_from_into(
+        c: Cursor,
+        s: &[u8],
+        limit: usize,
+        starts: &mut [usize; 1000],
+        lens: &mut [usize; 1000],
+    ) -> ReadCovenant
+        ensures { λ r. ⌜ covenantPaper r ≡ skimmed (covenantAt limit (now (s .entry)) (c .position)) ⌝ }
+        ensures { λ _. ⌜ now (starts .exit) ≡ directoryOf (covenantAt limit (now (s .entry)) (c .position)) .starts ⌝ }
+        ensures { λ _. ⌜ now (lens .exit) ≡ directoryOf (covenantAt limit (now (s .entry)) (c .position)) .lens ⌝ }
+    {
+        let allowance = capped(limit);
+        match opened(c, s, allowance) {
+            ReadHead::Head { kind, count, next } => {
+                match fill(next, s, c.position, allowance, count, starts, lens) {
+                    Moved::To(end) => {
+                        let used = end.position - c.position;
+                        ReadCovenant::Accepted {
+                            kind,
+                            count,
+                            used,
+                            next: end,
+                        }
+                    }
+                    Moved::Refused(stop) => ReadCovenant::Refused(stop),
+                }
+            }
+            ReadHead::Refused(stop) => {
+                clear(starts, lens);
+                ReadCovenant::Refused(stop)
+            }
+        }
+    }
+
     // A covenant under an allowance.
     pub fn decode_from_with_limit(c: Cursor, s: &[u8], limit: usize) -> Decoded
         ensures { λ d. ⌜ decodedPaper d ≡ shown (covenantAt limit (now (s .entry)) (c .position)) ⌝ }
     {
         let mut starts = [0usize; 1000];
         let mut lens = [0usize; 1000];
-        let read = decode_at(c, s, limit, &mut starts, &mut lens);
+        let read = Covenant::decode_from_into(c, s, limit, &mut starts, &mut lens);
         assembled(read, starts, lens)
     }
 
@@ -173,7 +173,7 @@ impl Covenant {
             clear(starts, lens);
             return ReadCovenant::Refused(too_large(s.len(), Covenant::MAX_ENCODED_SIZE, 0));
         }
-        let read = decode_at(
+        let read = Covenant::decode_from_into(
             Cursor { position: 0 },
             s,
             Covenant::MAX_ENCODED_SIZE,

@@ -17,6 +17,7 @@ ghost use Prim.Native.Nat.{_≤_, _<_};
 ghost use lib.ListN.{length, getD};
 ghost use Rattle.refusal.specs.Outcome.{then, manyAt};
 ghost use Rattle.covenants.specs.Covenant.{itemAt};
+ghost use Rattle.covenants.specs.Filling.{TwoShort};
 ghost use Rattle.covenants.specs.Items.{absent, found, directoryItem, seekAt, wide, numberIn};
 ghost use Rattle.covenants.specs.Paper.{spotPaper, itemU8Paper, itemU32Paper, itemU64Paper, nameHashPaper, shownHash};
 
@@ -272,47 +273,57 @@ fn size_at(s: &[u8], at: usize) -> usize
     s[at] as usize
 }
 
-// Items 0 and 1 of the covenant that stands at c. Mostly its count and both lengths are one byte each, and no scan is needed.
+// Whether a covenant has two items at least, both there, and its count and their lengths are one byte each.
+fn two_short(s: &[u8], at: usize) -> bool
+    ensures { λ r. ⌜ (r ≡ true → TwoShort (now (s .entry)) at) ⌝ }
+{
+    let length = s.len();
+    if length < 3 {
+        return false;
+    }
+    if length - 3 < at {
+        return false;
+    }
+    let count = size_at(s, at + 1);
+    if count < 2 {
+        return false;
+    }
+    if 252 < count {
+        return false;
+    }
+    let first = size_at(s, at + 2);
+    if 252 < first {
+        return false;
+    }
+    let next = at + 3 + first;
+    if length <= next {
+        return false;
+    }
+    let second = size_at(s, next);
+    if 252 < second {
+        return false;
+    }
+    second < length - next
+}
+
+// Items 0 and 1 of the covenant that stands at c. Mostly no scan is needed.
 pub fn find_two(c: Cursor, s: &[u8]) -> Two
     ensures { λ r. ⌜ (spotPaper (r .first) ≡ seekAt (now (s .entry)) (c .position) 0) × (spotPaper (r .second) ≡ seekAt (now (s .entry)) (c .position) 1) ⌝ }
 {
     let at = c.position;
-    if s.len() < 3 {
-        return two_scans(c, &s[..]);
+    if two_short(s, at) {
+        let first = size_at(s, at + 2);
+        let next = at + 3 + first;
+        return Two {
+            first: Spot::Part {
+                start: at + 3,
+                len: first,
+            },
+            second: Spot::Part {
+                start: next + 1,
+                len: size_at(s, next),
+            },
+        };
     }
-    if s.len() - 3 < at {
-        return two_scans(c, &s[..]);
-    }
-    let count = size_at(s, at + 1);
-    if count < 2 {
-        return two_scans(c, &s[..]);
-    }
-    if 252 < count {
-        return two_scans(c, &s[..]);
-    }
-    let first = size_at(s, at + 2);
-    if 252 < first {
-        return two_scans(c, &s[..]);
-    }
-    let next = at + 3 + first;
-    if s.len() <= next {
-        return two_scans(c, &s[..]);
-    }
-    let second = size_at(s, next);
-    if 252 < second {
-        return two_scans(c, &s[..]);
-    }
-    if s.len() - next <= second {
-        return two_scans(c, &s[..]);
-    }
-    Two {
-        first: Spot::Part {
-            start: at + 3,
-            len: first,
-        },
-        second: Spot::Part {
-            start: next + 1,
-            len: second,
-        },
-    }
+    two_scans(c, &s[..])
 }

@@ -1,9 +1,11 @@
 // Short items: those whose length is one byte. Most items are, and a loop over them makes no answer of its own for each.
 ghost use mathlib.Core.Path.{_≡_};
+ghost use mathlib.Core.Bool.{true};
 ghost use Prim.Native.Nat.{ℕ, _+_, _-_, _≤_, min};
+ghost use lib.ListN.{length};
 ghost use Rattle.refusal.specs.Outcome.{past, manyAt};
 ghost use Rattle.covenants.specs.Covenant.{itemAt};
-ghost use Rattle.covenants.specs.Filling.{Filling};
+ghost use Rattle.covenants.specs.Filling.{Filling, Short};
 
 // How far items were passed: how many of them, and where the next one stands.
 pub(crate) struct Reached {
@@ -30,6 +32,37 @@ fn latest(length: usize, start: usize, allowance: usize) -> usize
     start + allowance
 }
 
+// Whether the item at a place is short and ends in time, and then where the next one stands.
+struct Next {
+    there: bool,
+    at: usize,
+}
+
+// The item at `at`, if it is short and ends by `end`. An empty one is told apart, so that the next place does not wait for its length.
+fn short_item(s: &[u8], end: usize, at: usize) -> Next
+    requires { ⌜ end ≤ length (now s) ⌝ }
+    ensures { λ r. ⌜ (r .there ≡ true → Short (now (s .entry)) end at (r .at)) ⌝ }
+{
+    if end <= at {
+        return Next { there: false, at };
+    }
+    let size = s[at];
+    if size == 0 {
+        return Next {
+            there: true,
+            at: at + 1,
+        };
+    }
+    if 252 < size {
+        return Next { there: false, at };
+    }
+    let next = at + 1 + wide(size);
+    Next {
+        there: next <= end,
+        at: next,
+    }
+}
+
 // Short items are passed, up to the first that is not short or does not fit. What is left to pass comes to the same.
 pub(crate) fn short_items(
     s: &[u8],
@@ -47,23 +80,11 @@ pub(crate) fn short_items(
     let mut i = passed;
     let mut at = from;
     while i < count {
-        if end <= at {
-            return Reached { passed: i, at };
+        let next = short_item(s, end, at);
+        if !next.there {
+            break;
         }
-        let size = s[at];
-        if size == 0 {
-            at += 1;
-            i += 1;
-            continue;
-        }
-        if 252 < size {
-            return Reached { passed: i, at };
-        }
-        let next = at + 1 + wide(size);
-        if end < next {
-            return Reached { passed: i, at };
-        }
-        at = next;
+        at = next.at;
         i += 1;
     }
     Reached { passed: i, at }
@@ -88,29 +109,14 @@ pub(crate) fn short_entries(
     let mut i = passed;
     let mut at = from;
     while i < count {
-        if end <= at {
-            return Reached { passed: i, at };
+        let next = short_item(s, end, at);
+        if !next.there {
+            break;
         }
-        let size = s[at];
-        if size == 0 {
-            at += 1;
-            starts[i] = at;
-            lens[i] = 0;
-            i += 1;
-            continue;
-        }
-        if 252 < size {
-            return Reached { passed: i, at };
-        }
-        let first = at + 1;
-        let len = wide(size);
-        let next = first + len;
-        if end < next {
-            return Reached { passed: i, at };
-        }
-        starts[i] = first;
-        lens[i] = len;
-        at = next;
+        at += 1;
+        starts[i] = at;
+        lens[i] = next.at - at;
+        at = next.at;
         i += 1;
     }
     Reached { passed: i, at }

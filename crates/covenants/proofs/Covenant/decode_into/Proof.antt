@@ -8,57 +8,44 @@ use Rattle.covenants.proofs.Directory.{found, refused, tells-same, tell
 use Rattle.covenants.proofs.Covenant.decode_into.Statement.{statement}
 use Rattle.covenants.proofs.Covenant.decode_into.Tie as tie
 
--- src/decode.rt:174:13
 clear-requires : tie.Need-clear-requires
 clear-requires c κs = search needs
 
--- src/decode.rt:175:42
 too-large-requires : tie.Need-too-large-requires
 too-large-requires c κs = search needs
 
--- src/decode.rt:175:13
 returns : tie.Need-returns
 returns c = rw (c .too-large .ensures .0, c .too-large .ensures .1) (tells-refused (whole-long _ (c .before .before .before .before .if1 .taken)) (c .before .clear .ensures))
 
--- src/decode.rt:177:13
-decode-at-requires : tie.Need-decode-at-requires
-decode-at-requires c κs = search needs
+decode-from-into-requires : tie.Need-decode-from-into-requires
+decode-from-into-requires c κs = search needs
 
--- src/decode.rt:189:17
 enum-known-read : tie.Need-enum-known-read
 enum-known-read c = search needs
 
--- src/decode.rt:190:24
 finish-requires : tie.Need-finish-requires
 finish-requires c κs = search needs
 
--- src/decode.rt:191:33
 enum-told : tie.Need-enum-told
 enum-told c = search needs
 
--- src/decode.rt:192:32
 enum-known-stop : tie.Need-enum-known-stop
 enum-known-stop c = search needs
 
--- src/decode.rt:193:21
 clear-requires-2 : tie.Need-clear-requires-2
 clear-requires-2 c κs = search needs
 
--- src/decode.rt:197:41
 enum-told-2 : tie.Need-enum-told-2
 enum-told-2 c = search needs
 
--- src/decode.rt:164:5
 returns-2 : tie.Need-returns-2
-returns-2 c = let o = found _ (told covenantPaper (c .before .before .before .before .before .before .decode-at .ensures .0) (c .before .before .before .before .read .given .1)) in tells-same (o .1 ∙ sym (whole-ended _ (c .before .before .before .before .before .before .before .before .before .if1 .left) (o .1) (told movedPaper (c .before .before .finish .ensures) (c .enum-told .given .1)))) (sym (ap covenantPaper (c .before .before .before .before .read .given .1)) ∙ c .before .before .before .before .before .before .decode-at .ensures .0, c .before .before .before .before .before .before .decode-at .ensures .1)
+returns-2 c = let o = found _ (told covenantPaper (c .before .before .before .before .before .before .decode-from-into .ensures .0) (c .before .before .before .before .read .given .1)) in tells-same (o .1 ∙ sym (whole-ended _ (c .before .before .before .before .before .before .before .before .before .if1 .left) (o .1) (told movedPaper (c .before .before .finish .ensures) (c .enum-told .given .1)))) (sym (ap covenantPaper (c .before .before .before .before .read .given .1)) ∙ c .before .before .before .before .before .before .decode-from-into .ensures .0, c .before .before .before .before .before .before .decode-from-into .ensures .1)
 
--- src/decode.rt:164:5
 returns-3 : tie.Need-returns-3
-returns-3 c = let o = found _ (told covenantPaper (c .before .before .before .before .before .before .before .before .before .before .decode-at .ensures .0) (c .before .before .before .before .before .before .before .before .read .given .1)) in tells-refused (whole-trailing _ (c .before .before .before .before .before .before .before .before .before .before .before .before .before .if1 .left) (o .1) (told movedPaper (c .before .before .before .before .before .before .finish .ensures) (c .before .before .before .before .stop .given .1))) (c .clear2 .ensures)
+returns-3 c = let o = found _ (told covenantPaper (c .before .before .before .before .before .before .before .before .before .before .decode-from-into .ensures .0) (c .before .before .before .before .before .before .before .before .read .given .1)) in tells-refused (whole-trailing _ (c .before .before .before .before .before .before .before .before .before .before .before .before .before .if1 .left) (o .1) (told movedPaper (c .before .before .before .before .before .before .finish .ensures) (c .before .before .before .before .stop .given .1))) (c .clear2 .ensures)
 
--- src/decode.rt:164:5
 returns-4 : tie.Need-returns-4
-returns-4 c = let o = refused _ (told covenantPaper (c .before .before .decode-at .ensures .0) (c .enum-told2 .given .1)) in tells-same (o ∙ sym (whole-refused _ (c .before .before .before .before .before .if1 .left) o)) (c .before .before .decode-at .ensures)
+returns-4 c = let o = refused _ (told covenantPaper (c .before .before .decode-from-into .ensures .0) (c .enum-told2 .given .1)) in tells-same (o ∙ sym (whole-refused _ (c .before .before .before .before .before .if1 .left) o)) (c .before .before .decode-from-into .ensures)
 
 pub decode-into-spec : {M : Type 1} → statement M
 decode-into-spec =
@@ -67,7 +54,7 @@ decode-into-spec =
     clear-requires
     too-large-requires
     returns
-    decode-at-requires
+    decode-from-into-requires
     enum-known-read
     finish-requires
     enum-told

@@ -5,59 +5,47 @@ use Rattle.refusal.proofs.Outcomes.{told}
 use Rattle.covenants.specs.Paper.{headPaper}
 use Rattle.covenants.proofs.Moves.{opened-head, skim-refused, skim-stopped, skim-ended, skim-later}
 use Rattle.covenants.proofs.Directory.{tells-kept, tells-refused}
-use Rattle.covenants.proofs.decode.decode_at.Statement.{statement}
-use Rattle.covenants.proofs.decode.decode_at.Tie as tie
+use Rattle.covenants.proofs.Covenant.decode_from_into.Statement.{statement}
+use Rattle.covenants.proofs.Covenant.decode_from_into.Tie as tie
 
--- src/decode.rt:92:9
 capped-requires : tie.Need-capped-requires
 capped-requires c κs = search needs
 
--- src/decode.rt:93:11
 opened-requires : tie.Need-opened-requires
 opened-requires c κs = search needs
 
--- src/decode.rt:94:26
 enum-known-kind : tie.Need-enum-known-kind
 enum-known-kind c = search needs
 
--- src/decode.rt:95:19
 fill-requires : tie.Need-fill-requires
 fill-requires c κs = let h = opened-head _ _ _ (told headPaper (c .before .before .before .before .before .opened .ensures) (c .before .before .before .kind .given .1)) (omega arith) in (omega (arith, h .later), h .few)
 
--- src/decode.rt:96:27
 enum-known-end : tie.Need-enum-known-end
 enum-known-end c = search needs
 
--- src/decode.rt:97:32
 sub-used : tie.Need-sub-used
 sub-used c = skim-later _ _ _ (c .before .before .before .before .before .before .before .before .before .before .before .before .capped .ensures) (told headPaper (c .before .before .before .before .before .before .before .before .before .before .before .opened .ensures) (c .before .before .before .before .before .before .before .before .before .kind .given .1)) (omega arith) (told movedPaper (c .before .before .before .before .before .fill .ensures .0) (c .before .before .before .end .given .1))
 
--- src/decode.rt:105:32
 enum-known-stop : tie.Need-enum-known-stop
 enum-known-stop c = search needs
 
--- src/decode.rt:108:27
 enum-known-stop-2 : tie.Need-enum-known-stop-2
 enum-known-stop-2 c = search needs
 
--- src/decode.rt:109:13
 clear-requires : tie.Need-clear-requires
 clear-requires c κs = search needs
 
--- src/decode.rt:81:1
 returns : tie.Need-returns
 returns c = tells-kept _ _ _ (c .before .before .before .before .before .before .before .before .before .before .before .before .capped .ensures) (told headPaper (c .before .before .before .before .before .before .before .before .before .before .before .opened .ensures) (c .before .before .before .before .before .before .before .before .before .kind .given .1)) (skim-ended _ _ _ (c .before .before .before .before .before .before .before .before .before .before .before .before .capped .ensures) (told headPaper (c .before .before .before .before .before .before .before .before .before .before .before .opened .ensures) (c .before .before .before .before .before .before .before .before .before .kind .given .1)) (told movedPaper (c .before .before .before .before .before .fill .ensures .0) (c .before .before .before .end .given .1))) (c .before .before .before .before .before .fill .ensures .1)
 
--- src/decode.rt:81:1
 returns-2 : tie.Need-returns-2
 returns-2 c = tells-kept _ _ _ (c .before .before .before .before .before .before .before .before .before .before .capped .ensures) (told headPaper (c .before .before .before .before .before .before .before .before .before .opened .ensures) (c .before .before .before .before .before .before .before .kind .given .1)) (skim-stopped _ _ _ (c .before .before .before .before .before .before .before .before .before .before .capped .ensures) (told headPaper (c .before .before .before .before .before .before .before .before .before .opened .ensures) (c .before .before .before .before .before .before .before .kind .given .1)) (told movedPaper (c .before .before .before .fill .ensures .0) (c .before .stop .given .1))) (c .before .before .before .fill .ensures .1)
 
--- src/decode.rt:81:1
 returns-3 : tie.Need-returns-3
 returns-3 c = tells-refused (skim-refused _ _ _ (c .before .before .before .before .before .before .before .capped .ensures) (told headPaper (c .before .before .before .before .before .before .opened .ensures) (c .before .before .before .before .stop2 .given .1))) (c .clear .ensures)
 
-pub decode-at-spec : {M : Type 1} → statement M
-decode-at-spec =
+pub decode-from-into-spec : {M : Type 1} → statement M
+decode-from-into-spec =
     tie.close
     (tie.spec
     capped-requires
