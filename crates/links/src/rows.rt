@@ -229,11 +229,9 @@ fn same_owner(tx: &[u8], coins: &[u8], input: usize, spent: Place, made: Place) 
             if same_address(coins, spent, tx, made) {
                 return Step::Passes(true);
             }
-            return Step::Breaks(Refusal::AddressMismatch { input });
+            Step::Breaks(Refusal::AddressMismatch { input })
         }
-        Step::Breaks(r) => {
-            return Step::Breaks(r);
-        }
+        Step::Breaks(r) => Step::Breaks(r),
     }
 }
 
@@ -279,12 +277,8 @@ fn bid_row(tx: &[u8], coins: &[u8], input: usize, spent: Place, made: Place) -> 
         return invalid_transition(input, spent, made);
     }
     match name_and_start(tx, coins, input, spent, made) {
-        Step::Passes(_) => {
-            return commitment(tx, coins, input, spent, made);
-        }
-        Step::Breaks(r) => {
-            return Step::Breaks(r);
-        }
+        Step::Passes(_) => commitment(tx, coins, input, spent, made),
+        Step::Breaks(r) => Step::Breaks(r),
     }
 }
 
@@ -293,12 +287,8 @@ fn claimed(named: Step, input: usize) -> Step
     ensures { λ r. ⌜ stepPaper r ≡ after (stepPaper named) (breaks 20 (input ∷ [])) ⌝ }
 {
     match named {
-        Step::Passes(_) => {
-            return Step::Breaks(Refusal::ClaimCannotRedeem { input });
-        }
-        Step::Breaks(r) => {
-            return Step::Breaks(r);
-        }
+        Step::Passes(_) => Step::Breaks(Refusal::ClaimCannotRedeem { input }),
+        Step::Breaks(r) => Step::Breaks(r),
     }
 }
 
@@ -321,15 +311,9 @@ fn reveal_row(tx: &[u8], coins: &[u8], input: usize, spent: Place, made: Place) 
 {
     let to = made.kind;
     match to {
-        kind::REGISTER => {
-            return same_owner(tx, coins, input, spent, made);
-        }
-        kind::REDEEM => {
-            return redeem(tx, coins, input, spent, made);
-        }
-        _ => {
-            return invalid_transition(input, spent, made);
-        }
+        kind::REGISTER => same_owner(tx, coins, input, spent, made),
+        kind::REDEEM => redeem(tx, coins, input, spent, made),
+        _ => invalid_transition(input, spent, made),
     }
 }
 
@@ -422,12 +406,8 @@ fn finalize(tx: &[u8], coins: &[u8], input: usize, spent: Place, made: Place) ->
     ensures { λ r. ⌜ stepPaper r ≡ after (nameAndStart input (outputOf (now (coins .entry)) spent .items) (outputOf (now (tx .entry)) made .items)) (rules.destination input (outputOf (now (coins .entry)) spent) (outputOf (now (tx .entry)) made)) ⌝ }
 {
     match name_and_start(tx, coins, input, spent, made) {
-        Step::Passes(_) => {
-            return destination(tx, coins, input, spent, made);
-        }
-        Step::Breaks(r) => {
-            return Step::Breaks(r);
-        }
+        Step::Passes(_) => destination(tx, coins, input, spent, made),
+        Step::Breaks(r) => Step::Breaks(r),
     }
 }
 
@@ -538,27 +518,13 @@ fn pair_row(
     ensures { λ r. ⌜ stepPaper r ≡ rowRule from input (outputOf (now (coins .entry)) spent) (there (outputOf (now (tx .entry)) made)) ⌝ }
 {
     match from {
-        TableRow::Free => {
-            return free_row(input, spent, made);
-        }
-        TableRow::Bid => {
-            return bid_row(tx, coins, input, spent, made);
-        }
-        TableRow::Reveal => {
-            return reveal_row(tx, coins, input, spent, made);
-        }
-        TableRow::Owned => {
-            return owned_row(tx, coins, input, spent, made);
-        }
-        TableRow::Transfer => {
-            return transfer_row(tx, coins, input, spent, made);
-        }
-        TableRow::Revoke => {
-            return Step::Breaks(Refusal::RevokedCoinSpent { input });
-        }
-        TableRow::Unknown => {
-            return unknown_row(input, made.kind);
-        }
+        TableRow::Free => free_row(input, spent, made),
+        TableRow::Bid => bid_row(tx, coins, input, spent, made),
+        TableRow::Reveal => reveal_row(tx, coins, input, spent, made),
+        TableRow::Owned => owned_row(tx, coins, input, spent, made),
+        TableRow::Transfer => transfer_row(tx, coins, input, spent, made),
+        TableRow::Revoke => Step::Breaks(Refusal::RevokedCoinSpent { input }),
+        TableRow::Unknown => unknown_row(input, made.kind),
     }
 }
 
@@ -574,27 +540,13 @@ fn lone_row(input: usize, kind: u8, from: TableRow) -> Step
     ensures { λ r. ⌜ Alone input kind from (stepPaper r) ⌝ }
 {
     match from {
-        TableRow::Free => {
-            return Step::Passes(false);
-        }
-        TableRow::Bid => {
-            return missing(input, kind);
-        }
-        TableRow::Reveal => {
-            return missing(input, kind);
-        }
-        TableRow::Owned => {
-            return missing(input, kind);
-        }
-        TableRow::Transfer => {
-            return missing(input, kind);
-        }
-        TableRow::Revoke => {
-            return Step::Breaks(Refusal::RevokedCoinSpent { input });
-        }
-        TableRow::Unknown => {
-            return Step::Passes(false);
-        }
+        TableRow::Free => Step::Passes(false),
+        TableRow::Bid => missing(input, kind),
+        TableRow::Reveal => missing(input, kind),
+        TableRow::Owned => missing(input, kind),
+        TableRow::Transfer => missing(input, kind),
+        TableRow::Revoke => Step::Breaks(Refusal::RevokedCoinSpent { input }),
+        TableRow::Unknown => Step::Passes(false),
     }
 }
 
@@ -605,11 +557,7 @@ pub(crate) fn row(tx: &[u8], coins: &[u8], input: usize, spent: Place, partner: 
 {
     let from = row_of(spent.kind);
     match partner {
-        Partner::Output(made) => {
-            return pair_row(tx, coins, input, spent, made, from);
-        }
-        Partner::Missing => {
-            return lone_row(input, spent.kind, from);
-        }
+        Partner::Output(made) => pair_row(tx, coins, input, spent, made, from),
+        Partner::Missing => lone_row(input, spent.kind, from),
     }
 }

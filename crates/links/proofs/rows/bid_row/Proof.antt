@@ -1,4 +1,6 @@
 use borrow.Author.Needs.{needs}
+use native.Mathlib.Omega.{arith}
+use mathlib.Core.Path.{_≡_, refl, ap, sym, _∙_}
 use borrow.Author.Tests.{eq-eqb, ne-eqb}
 use Rattle.links.specs.Rules.{bidRule}
 use Rattle.links.proofs.rows.bid_row.Statement.{statement}
@@ -25,12 +27,12 @@ enum-told c = search needs
 commitment-requires : tie.Need-commitment-requires
 commitment-requires c κs = search needs
 
+enum-known-r : tie.Need-enum-known-r
+enum-known-r c = search needs
+
 returns-2 : tie.Need-returns-2
 unfolding bidRule
 returns-2 c = rw (eq-eqb _ _ (c .before .before .before .before .if1 .left), ← c .before .before .before .name-and-start .ensures, c .before .enum-told .given .1) (c .commitment .ensures)
-
-enum-known-r : tie.Need-enum-known-r
-enum-known-r c = search needs
 
 returns-3 : tie.Need-returns-3
 unfolding bidRule
@@ -45,6 +47,6 @@ bid-row-spec =
     name-and-start-requires
     enum-told
     commitment-requires
-    returns-2
     enum-known-r
+    returns-2
     returns-3)

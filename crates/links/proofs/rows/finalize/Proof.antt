@@ -1,4 +1,6 @@
 use borrow.Author.Needs.{needs}
+use native.Mathlib.Omega.{arith}
+use mathlib.Core.Path.{_≡_, refl, ap, sym, _∙_}
 use Rattle.links.proofs.rows.finalize.Statement.{statement}
 use Rattle.links.proofs.rows.finalize.Tie as tie
 use Rattle.links.proofs.rows.finalize.Reads as reads
@@ -13,11 +15,11 @@ enum-told c = search needs
 destination-requires : tie.Need-destination-requires
 destination-requires c κs = search needs
 
-returns : tie.Need-returns
-returns c = rw (← c .before .before .before .name-and-start .ensures, c .before .enum-told .given .1) (c .destination .ensures)
-
 enum-known-r : tie.Need-enum-known-r
 enum-known-r c = search needs
+
+returns : tie.Need-returns
+returns c = rw (← c .before .before .before .name-and-start .ensures, c .before .enum-told .given .1) (c .destination .ensures)
 
 returns-2 : tie.Need-returns-2
 returns-2 c = rw (← c .before .before .before .name-and-start .ensures, c .before .r .given .1)
@@ -29,6 +31,6 @@ finalize-spec =
     name-and-start-requires
     enum-told
     destination-requires
-    returns
     enum-known-r
+    returns
     returns-2)

@@ -1,5 +1,7 @@
 use borrow.Author.Needs.{needs}
-use borrow.Author.Tests.{ne-eqb}
+use native.Mathlib.Omega.{arith}
+use mathlib.Core.Path.{_≡_, refl, ap, sym, _∙_}
+use borrow.Author.Tests.{eq-eqb, ne-eqb}
 use Rattle.links.specs.Rules.{revealRule}
 use Rattle.links.proofs.rows.reveal_row.Statement.{statement}
 use Rattle.links.proofs.rows.reveal_row.Tie as tie
@@ -12,19 +14,19 @@ use Rattle.links.proofs.rows.same_owner.Reads as same-owner-reads
 same-owner-requires : tie.Need-same-owner-requires
 same-owner-requires c κs = search needs
 
+redeem-requires : tie.Need-redeem-requires
+redeem-requires c κs = search needs
+
+invalid-transition-requires : tie.Need-invalid-transition-requires
+invalid-transition-requires c κs = search needs
+
 returns : tie.Need-returns
 unfolding revealRule
 returns c = rw (c .before .match .keys1) (c .same-owner .ensures)
 
-redeem-requires : tie.Need-redeem-requires
-redeem-requires c κs = search needs
-
 returns-2 : tie.Need-returns-2
 unfolding revealRule
 returns-2 c = rw (c .before .match .keys2) (c .redeem .ensures)
-
-invalid-transition-requires : tie.Need-invalid-transition-requires
-invalid-transition-requires c κs = search needs
 
 returns-3 : tie.Need-returns-3
 unfolding revealRule
@@ -35,8 +37,8 @@ reveal-row-spec =
     tie.close
     (tie.spec
     same-owner-requires
-    returns
     redeem-requires
-    returns-2
     invalid-transition-requires
+    returns
+    returns-2
     returns-3)

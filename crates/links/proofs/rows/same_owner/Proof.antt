@@ -1,4 +1,6 @@
 use borrow.Author.Needs.{needs}
+use native.Mathlib.Omega.{arith}
+use mathlib.Core.Path.{_≡_, refl, ap, sym, _∙_}
 use Rattle.links.proofs.rows.same_owner.Statement.{statement}
 use Rattle.links.proofs.rows.same_owner.Tie as tie
 use Rattle.links.proofs.rows.same_owner.Reads as reads
@@ -18,11 +20,11 @@ same-address-requires c κs = (c .before .before .before .before .before .pre .0
 returns : tie.Need-returns
 returns c = rw (← c .before .before .before .before .name-and-start .ensures, c .before .before .enum-told .given .1, ← c .before .same-address .ensures, c .if1 .taken)
 
-returns-2 : tie.Need-returns-2
-returns-2 c = rw (← c .before .before .before .before .name-and-start .ensures, c .before .before .enum-told .given .1, ← c .before .same-address .ensures, c .if1 .left)
-
 enum-known-r : tie.Need-enum-known-r
 enum-known-r c = search needs
+
+returns-2 : tie.Need-returns-2
+returns-2 c = rw (← c .before .before .before .before .name-and-start .ensures, c .before .before .enum-told .given .1, ← c .before .same-address .ensures, c .if1 .left)
 
 returns-3 : tie.Need-returns-3
 returns-3 c = rw (← c .before .before .before .name-and-start .ensures, c .before .r .given .1)
@@ -35,6 +37,6 @@ same-owner-spec =
     enum-told
     same-address-requires
     returns
-    returns-2
     enum-known-r
+    returns-2
     returns-3)
