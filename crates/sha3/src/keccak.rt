@@ -1,6 +1,10 @@
 // The permutation KECCAK-p[1600, 24] (FIPS 202, section 3), on the state's 25 lanes by value.
 ghost use mathlib.Core.Path.{_≡_};
-ghost use Rattle.sha3.specs.Keccak.{theta, rho, pi, chi, constantAdded, keccakP};
+ghost use mathlib.Core.List.{_++_};
+ghost use Prim.Native.Nat.{_+_, _<_};
+ghost use lib.Bits.{bitAnd, bitXor};
+ghost use lib.ListN.{getD};
+ghost use Rattle.sha3.specs.Keccak.{rot, inv, lane, plane, parity, theta, rho, pi, chi, constantAdded, keccakP};
 
 // The constants of Algorithm 6 for the rounds 0 to 23.
 const RC: [u64; 24] = [
@@ -30,75 +34,95 @@ const RC: [u64; 24] = [
     0x8000000080008008,
 ];
 
-// Theta: the parities c of the columns, and what they add to each lane, d. This step and the next two are straight-line, so that the lanes stay in registers.
-fn theta(a: [u64; 25]) -> [u64; 25]
-    ensures { λ r. ⌜ r ≡ theta a ⌝ }
+// 3.2.1: the parity C[x]. No step of a round has a loop, so that the lanes stay in registers.
+fn parity_of(a: [u64; 25], x: usize) -> u64
+    requires { ⌜ x < 5 ⌝ }
+    ensures { λ r. ⌜ r ≡ parity a x ⌝ }
 {
-    let a0 = a[0];
-    let a1 = a[1];
-    let a2 = a[2];
-    let a3 = a[3];
-    let a4 = a[4];
-    let a5 = a[5];
-    let a6 = a[6];
-    let a7 = a[7];
-    let a8 = a[8];
-    let a9 = a[9];
-    let a10 = a[10];
-    let a11 = a[11];
-    let a12 = a[12];
-    let a13 = a[13];
-    let a14 = a[14];
-    let a15 = a[15];
-    let a16 = a[16];
-    let a17 = a[17];
-    let a18 = a[18];
-    let a19 = a[19];
-    let a20 = a[20];
-    let a21 = a[21];
-    let a22 = a[22];
-    let a23 = a[23];
-    let a24 = a[24];
-    let c0 = a0 ^ a5 ^ a10 ^ a15 ^ a20;
-    let c1 = a1 ^ a6 ^ a11 ^ a16 ^ a21;
-    let c2 = a2 ^ a7 ^ a12 ^ a17 ^ a22;
-    let c3 = a3 ^ a8 ^ a13 ^ a18 ^ a23;
-    let c4 = a4 ^ a9 ^ a14 ^ a19 ^ a24;
-    let d0 = c4 ^ (c1 << 1 | c1 >> 63);
-    let d1 = c0 ^ (c2 << 1 | c2 >> 63);
-    let d2 = c1 ^ (c3 << 1 | c3 >> 63);
-    let d3 = c2 ^ (c4 << 1 | c4 >> 63);
-    let d4 = c3 ^ (c0 << 1 | c0 >> 63);
+    a[x] ^ a[x + 5] ^ a[x + 10] ^ a[x + 15] ^ a[x + 20]
+}
+
+// 3.2.1: D[0] to D[4]; theta adds D[x] to each lane at x.
+fn added(a: [u64; 25]) -> [u64; 5]
+    ensures { λ r. ⌜ r ≡ plane (λ x y. bitXor (parity a (x + 4)) (rot 1 (parity a (x + 1)))) 0 ⌝ }
+{
+    let c0 = parity_of(a, 0);
+    let c1 = parity_of(a, 1);
+    let c2 = parity_of(a, 2);
+    let c3 = parity_of(a, 3);
+    let c4 = parity_of(a, 4);
     [
-        a0 ^ d0,
-        a1 ^ d1,
-        a2 ^ d2,
-        a3 ^ d3,
-        a4 ^ d4,
-        a5 ^ d0,
-        a6 ^ d1,
-        a7 ^ d2,
-        a8 ^ d3,
-        a9 ^ d4,
-        a10 ^ d0,
-        a11 ^ d1,
-        a12 ^ d2,
-        a13 ^ d3,
-        a14 ^ d4,
-        a15 ^ d0,
-        a16 ^ d1,
-        a17 ^ d2,
-        a18 ^ d3,
-        a19 ^ d4,
-        a20 ^ d0,
-        a21 ^ d1,
-        a22 ^ d2,
-        a23 ^ d3,
-        a24 ^ d4,
+        c4 ^ (c1 << 1 | c1 >> 63),
+        c0 ^ (c2 << 1 | c2 >> 63),
+        c1 ^ (c3 << 1 | c3 >> 63),
+        c2 ^ (c4 << 1 | c4 >> 63),
+        c3 ^ (c0 << 1 | c0 >> 63),
     ]
 }
 
-// Rho and pi: each lane turned by its number of places, and moved to its place.
+// 3.2.1: plane y of theta, where d is D.
+fn theta_plane(a: [u64; 25], d: [u64; 5], y: usize) -> [u64; 5]
+    requires { ⌜ y < 5 ⌝ }
+    ensures { λ r. ⌜ r ≡ plane (λ x y. bitXor (lane a x y) (getD d x 0)) y ⌝ }
+{
+    let at = 5 * y;
+    [
+        a[at] ^ d[0],
+        a[at + 1] ^ d[1],
+        a[at + 2] ^ d[2],
+        a[at + 3] ^ d[3],
+        a[at + 4] ^ d[4],
+    ]
+}
+
+// Five planes as a state.
+fn join(p0: [u64; 5], p1: [u64; 5], p2: [u64; 5], p3: [u64; 5], p4: [u64; 5]) -> [u64; 25]
+    ensures { λ r. ⌜ r ≡ p0 ++ p1 ++ p2 ++ p3 ++ p4 ⌝ }
+{
+    [
+        p0[0],
+        p0[1],
+        p0[2],
+        p0[3],
+        p0[4],
+        p1[0],
+        p1[1],
+        p1[2],
+        p1[3],
+        p1[4],
+        p2[0],
+        p2[1],
+        p2[2],
+        p2[3],
+        p2[4],
+        p3[0],
+        p3[1],
+        p3[2],
+        p3[3],
+        p3[4],
+        p4[0],
+        p4[1],
+        p4[2],
+        p4[3],
+        p4[4],
+    ]
+}
+
+// 3.2.1, on all planes.
+fn theta(a: [u64; 25]) -> [u64; 25]
+    ensures { λ r. ⌜ r ≡ theta a ⌝ }
+{
+    let d = added(a);
+    join(
+        theta_plane(a, d, 0),
+        theta_plane(a, d, 1),
+        theta_plane(a, d, 2),
+        theta_plane(a, d, 3),
+        theta_plane(a, d, 4),
+    )
+}
+
+// 3.2.2 and 3.2.3: each lane turned by its number of places, and moved to its place.
 fn rho_pi(a: [u64; 25]) -> [u64; 25]
     ensures { λ r. ⌜ r ≡ pi (rho a) ⌝ }
 {
@@ -155,65 +179,40 @@ fn rho_pi(a: [u64; 25]) -> [u64; 25]
     ]
 }
 
-// Chi and iota: each row of five lanes, and the round's constant in the first lane.
-fn chi_iota(a: [u64; 25], rc: u64) -> [u64; 25]
-    ensures { λ r. ⌜ r ≡ constantAdded rc (chi a) ⌝ }
+// 3.2.4: plane y of chi. The first plane takes in the round's constant as k, and the others 0.
+fn chi_plane(a: [u64; 25], y: usize, k: u64) -> [u64; 5]
+    requires { ⌜ y < 5 ⌝ }
+    ensures { λ r. ⌜ r ≡ constantAdded k (plane (λ x y. bitXor (lane a x y) (bitAnd (inv (lane a (x + 1) y)) (lane a (x + 2) y))) y) ⌝ }
 {
-    let b0 = a[0];
-    let b1 = a[1];
-    let b2 = a[2];
-    let b3 = a[3];
-    let b4 = a[4];
-    let b5 = a[5];
-    let b6 = a[6];
-    let b7 = a[7];
-    let b8 = a[8];
-    let b9 = a[9];
-    let b10 = a[10];
-    let b11 = a[11];
-    let b12 = a[12];
-    let b13 = a[13];
-    let b14 = a[14];
-    let b15 = a[15];
-    let b16 = a[16];
-    let b17 = a[17];
-    let b18 = a[18];
-    let b19 = a[19];
-    let b20 = a[20];
-    let b21 = a[21];
-    let b22 = a[22];
-    let b23 = a[23];
-    let b24 = a[24];
+    let at = 5 * y;
+    let b0 = a[at];
+    let b1 = a[at + 1];
+    let b2 = a[at + 2];
+    let b3 = a[at + 3];
+    let b4 = a[at + 4];
     [
-        b0 ^ (!b1 & b2) ^ rc,
+        b0 ^ (!b1 & b2) ^ k,
         b1 ^ (!b2 & b3),
         b2 ^ (!b3 & b4),
         b3 ^ (!b4 & b0),
         b4 ^ (!b0 & b1),
-        b5 ^ (!b6 & b7),
-        b6 ^ (!b7 & b8),
-        b7 ^ (!b8 & b9),
-        b8 ^ (!b9 & b5),
-        b9 ^ (!b5 & b6),
-        b10 ^ (!b11 & b12),
-        b11 ^ (!b12 & b13),
-        b12 ^ (!b13 & b14),
-        b13 ^ (!b14 & b10),
-        b14 ^ (!b10 & b11),
-        b15 ^ (!b16 & b17),
-        b16 ^ (!b17 & b18),
-        b17 ^ (!b18 & b19),
-        b18 ^ (!b19 & b15),
-        b19 ^ (!b15 & b16),
-        b20 ^ (!b21 & b22),
-        b21 ^ (!b22 & b23),
-        b22 ^ (!b23 & b24),
-        b23 ^ (!b24 & b20),
-        b24 ^ (!b20 & b21),
     ]
 }
 
-// One round with its constant.
+// 3.2.4 and 3.2.5, on all planes.
+fn chi_iota(a: [u64; 25], rc: u64) -> [u64; 25]
+    ensures { λ r. ⌜ r ≡ constantAdded rc (chi a) ⌝ }
+{
+    join(
+        chi_plane(a, 0, rc),
+        chi_plane(a, 1, 0),
+        chi_plane(a, 2, 0),
+        chi_plane(a, 3, 0),
+        chi_plane(a, 4, 0),
+    )
+}
+
+// 3.3: one round with its constant.
 fn round(a: [u64; 25], rc: u64) -> [u64; 25]
     ensures { λ r. ⌜ r ≡ constantAdded rc (chi (pi (rho (theta a)))) ⌝ }
 {

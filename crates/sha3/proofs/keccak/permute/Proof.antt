@@ -2,8 +2,8 @@ use mathlib.Core.Path.{_≡_, refl, ap, _∙_}
 use Prim.Native.Nat.{ℕ, _≤_, _-_}
 use native.Mathlib.Omega.{arith}
 use borrow.Author.Needs.{needs}
-use Rattle.sha3.specs.Keccak.{shifted, register, rc, constantUpTo, roundConstant, rounds, keccakP}
-use Rattle.sha3.proofs.Constants.{RoundConstants, right, computed, one-more}
+use Rattle.sha3.specs.Keccak.{shifted, register, rounds, keccakP}
+use Rattle.sha3.proofs.Constants.{RoundConstants, turned, spelt, right, computed, one-more}
 use Rattle.sha3.proofs.keccak.permute.Statement.{statement}
 use Rattle.sha3.proofs.keccak.permute.Tie as tie
 
@@ -15,7 +15,7 @@ abbrev μ-loop : tie.MeasureT-loop
 μ-loop constants s₀ i₀ s i = 24 - i
 
 loop-holds : tie.Need-loop-holds Inv-loop μ-loop
-unfolding right shifted register rc constantUpTo roundConstant rounds
+unfolding turned spelt right shifted register rounds
 loop-holds c = (search needs, computed _ refl tt, refl)
 
 mul-round : tie.Need-mul-round Inv-loop μ-loop
