@@ -1,5 +1,5 @@
 use mathlib.Core.Path.{refl}
-use Rattle.name_state.specs.Paper.{padded}
+use Rattle.words.specs.Buffers.{padded}
 use Rattle.name_states.proofs.decode.refused.Statement.{statement}
 use Rattle.name_states.proofs.decode.refused.Tie as tie
 use Rattle.name_states.proofs.decode.refused.Reads as reads
