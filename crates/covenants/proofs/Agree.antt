@@ -12,6 +12,7 @@ use Rattle.refusal.proofs.Many.{many-next}
 use Rattle.encoding.specs.Theorems.{Lent}
 use Rattle.covenants.specs.Covenant.{itemAt, headAt, Reading, covenantAt}
 use Rattle.covenants.specs.Items.{there, absent, found, nth, seekAt, directoryItem}
+use Rattle.words.specs.Buffers.{padded}
 use Rattle.covenants.specs.Paper.{listed, directoryOf}
 use Rattle.covenants.specs.Filling.{starts-of, lens-of}
 use Rattle.covenants.proofs.Moves.{item-read, head-read, covenant-accepted}
@@ -71,7 +72,7 @@ entry allowance start s big (suc k) (suc n) at h e =
 -- the directory of those items
 directory-entry : (s : List ℕ) (xs : List (ℕ × ℕ)) (k : ℕ) → k < length xs → length xs ≤ 1000 → Entry s xs k
     → directoryItem s (listed (starts-of xs)) (listed (lens-of xs)) (length xs) k ≡ nth xs k
-unfolding listed directoryItem
+unfolding padded directoryItem
 directory-entry s xs k h few i =
     let a : getD (listed (starts-of xs)) k 0 ≡ i .part .0 = List·getD-append (starts-of xs) _ 0 k (rw length-map h) ∙ i .starts in
     let b : getD (listed (lens-of xs)) k 0 ≡ i .part .1 = List·getD-append (lens-of xs) _ 0 k (rw length-map h) ∙ i .size in

@@ -5,17 +5,18 @@ use native.Mathlib.Omega.{arith}
 use mathlib.Core.List.{List, [], _∷_, _++_, map, append-nil}
 use lib.ListN.{length, length-append, length-map, set, replicate}
 use lib.Seq.{set-append-seam, append-snoc}
-use Rattle.refusal.specs.Outcome.{Outcome, ok, err, then, past, manyAt}
+use Rattle.words.specs.Buffers.{padded}
+use Rattle.refusal.specs.Outcome.{Outcome, ok, err, then, past, manyAt, listOf}
 use Rattle.refusal.proofs.Outcomes.{never}
 use Rattle.covenants.specs.Covenant.{itemAt, headAt, Reading, Said, finished, opening, covenantAt, skimmed}
 use Rattle.covenants.specs.Paper.{listed, directoryOf, shown}
-use Rattle.covenants.specs.Filling.{starts-of, lens-of, kept, Filling}
+use Rattle.covenants.specs.Filling.{starts-of, lens-of, Filling}
 use Rattle.covenants.specs.declared.Covenant.{Covenant}
 use Rattle.covenants.proofs.Moves.{skim-body}
 
 -- a directory of 1,000 with one more number
 listed-more : (xs : List ℕ) (v : ℕ) → length xs < 1000 → set (listed xs) (length xs) v ≡ listed (xs ++ (v ∷ []))
-unfolding listed
+unfolding padded
 listed-more xs v h =
     let k : 1000 - length xs ≡ suc (999 - length xs) = omega arith in
     let k′ : 1000 - length (xs ++ (v ∷ [])) ≡ 999 - length xs = omega (arith, length-append xs (v ∷ [])) in
@@ -81,26 +82,26 @@ module _ (read : ℕ → Outcome (ℕ × ℕ)) where
     abbrev pub Kept : Outcome Unit → List ℕ → List ℕ → Type 0
     Kept o starts′ lens′ =
         (o ≡ past (manyAt read count from))
-        × ((starts′ ≡ listed (starts-of (kept (manyAt read count from)))) × (lens′ ≡ listed (lens-of (kept (manyAt read count from)))))
+        × ((starts′ ≡ listed (starts-of (listOf (manyAt read count from)))) × (lens′ ≡ listed (lens-of (listOf (manyAt read count from)))))
 
     pub all-kept : count ≤ i → Kept (ok tt at) starts lens
     all-kept h =
         let e = ended h in
-        (ap past e, (r .firsts ∙ ap (λ o. listed (starts-of (kept o))) e, r .sizes ∙ ap (λ o. listed (lens-of (kept o))) e))
+        (ap past e, (r .firsts ∙ ap (λ o. listed (starts-of (listOf o))) e, r .sizes ∙ ap (λ o. listed (lens-of (listOf o))) e))
 
     pub none-kept : {k : ℕ} {vs : List ℕ} {p : ℕ} {starts′ lens′ : List ℕ} → i < count → read at ≡ err k vs p → (starts′ ≡ listed []) × (lens′ ≡ listed []) → Kept (err k vs p) starts′ lens′
     none-kept h f zeros =
         let e = stopped h f in
-        (ap past e, (zeros .0 ∙ ap (λ o. listed (starts-of (kept o))) e, zeros .1 ∙ ap (λ o. listed (lens-of (kept o))) e))
+        (ap past e, (zeros .0 ∙ ap (λ o. listed (starts-of (listOf o))) e, zeros .1 ∙ ap (λ o. listed (lens-of (listOf o))) e))
 
 -- ---- the directory of a covenant is that of its items
 
-pub starts-kept : (o : Outcome (List (ℕ × ℕ))) (kind start : ℕ) → listed (starts-of (kept o)) ≡ directoryOf (then o (finished kind start)) .starts
+pub starts-kept : (o : Outcome (List (ℕ × ℕ))) (kind start : ℕ) → listed (starts-of (listOf o)) ≡ directoryOf (then o (finished kind start)) .starts
 unfolding directoryOf
 starts-kept (ok items end) kind start = refl
 starts-kept (err k vs p) kind start = refl
 
-pub lens-kept : (o : Outcome (List (ℕ × ℕ))) (kind start : ℕ) → listed (lens-of (kept o)) ≡ directoryOf (then o (finished kind start)) .lens
+pub lens-kept : (o : Outcome (List (ℕ × ℕ))) (kind start : ℕ) → listed (lens-of (listOf o)) ≡ directoryOf (then o (finished kind start)) .lens
 unfolding directoryOf
 lens-kept (ok items end) kind start = refl
 lens-kept (err k vs p) kind start = refl
@@ -120,7 +121,7 @@ tells-refused e zeros = rw e (refl, zeros)
 -- a covenant from its head on
 pub tells-kept : (limit : ℕ) (s : List ℕ) (at : ℕ) {allowance : ℕ} → allowance ≡ min limit 1000009 → {head : ℕ × ℕ} {next : ℕ} → opening allowance s at (headAt allowance s at) ≡ ok head next
     → {said : Outcome Said} {starts lens : List ℕ} → said ≡ skimmed (covenantAt limit s at)
-    → (starts ≡ listed (starts-of (kept (manyAt (itemAt allowance at s) (head .1) next)))) × (lens ≡ listed (lens-of (kept (manyAt (itemAt allowance at s) (head .1) next))))
+    → (starts ≡ listed (starts-of (listOf (manyAt (itemAt allowance at s) (head .1) next)))) × (lens ≡ listed (lens-of (listOf (manyAt (itemAt allowance at s) (head .1) next))))
     → Tells (covenantAt limit s at) said starts lens
 tells-kept limit s at {allowance} capped {head} {next} e said both =
     let items = manyAt (itemAt allowance at s) (head .1) next in

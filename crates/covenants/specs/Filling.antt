@@ -1,9 +1,9 @@
 -- A directory that is filled item by item: the workers' words, which no public contract has.
 use mathlib.Core.Path.{_≡_}
 use Prim.Native.Nat.{ℕ, _+_, _-_, _≤_, _<_}
-use mathlib.Core.List.{List, [], _++_, map}
+use mathlib.Core.List.{List, _++_, map}
 use lib.ListN.{length, getD}
-use Rattle.refusal.specs.Outcome.{Outcome, ok, err, then, manyAt}
+use Rattle.refusal.specs.Outcome.{Outcome, ok, then, manyAt}
 use Rattle.covenants.specs.Paper.{listed}
 
 abbrev pub starts-of : List (ℕ × ℕ) → List ℕ
@@ -11,11 +11,6 @@ starts-of = map (λ (i : ℕ × ℕ). i .0)
 
 abbrev pub lens-of : List (ℕ × ℕ) → List ℕ
 lens-of = map (λ (i : ℕ × ℕ). i .1)
-
--- the items that stand in the directory in the end: none where one was refused
-abbrev pub kept : Outcome (List (ℕ × ℕ)) → List (ℕ × ℕ)
-kept (ok items end) = items
-kept (err k vs p) = []
 
 -- after i of count items: those that were read stand in the directory, and what is left gives the rest of the answer
 pub record Filling (read : ℕ → Outcome (ℕ × ℕ)) (start count from : ℕ) (starts lens : List ℕ) (at i : ℕ) : Type 0 where

@@ -1,8 +1,9 @@
 -- What each answer says, in the document's numbers.
-use Prim.Native.Nat.{ℕ, _-_}
+use Prim.Native.Nat.{ℕ}
 use mathlib.Core.Bool.{Bool, true, false}
-use mathlib.Core.List.{List, [], _++_, map}
+use mathlib.Core.List.{List, [], map}
 use lib.ListN.{length, replicate}
+use Rattle.words.specs.Buffers.{padded}
 use Rattle.refusal.specs.Outcome.{Outcome, ok, err}
 use Rattle.refusal.specs.Paper.{numberOf, carried, stopped}
 use Rattle.covenants.specs.Covenant.{Reading, Said, skimmed}
@@ -30,12 +31,11 @@ headPaper (ReadHead.Head kind count next) = ok (kind, count) (next .position)
 headPaper (ReadHead.Refused s) = stopped s
 
 -- a directory of 1,000 numbers: those that there are, and zeros
-unfoldable pub listed : List ℕ → List ℕ
-listed xs = xs ++ replicate (1000 - length xs) 0
+abbrev pub listed : List ℕ → List ℕ
+listed xs = padded 1000 xs
 
 -- the covenant of a reading; "Unused parts of an answer are zeros"
 unfoldable pub directoryOf : Outcome Reading → Covenant
-unfolding listed
 directoryOf (ok c p) =
     record {
       kind = c .kind;

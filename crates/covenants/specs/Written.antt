@@ -3,8 +3,8 @@ use Prim.Native.Nat.{ℕ, zero, suc, _+_, _≤_}
 use mathlib.Core.List.{List, [], _∷_, _++_}
 use lib.ListN.{length, getD}
 use lib.Dec.{ltb}
-use Rattle.words.specs.Buffers.{pick, over}
-use Rattle.refusal.specs.Outcome.{Wrote, wrote, refused, next}
+use Rattle.words.specs.Buffers.{pick}
+use Rattle.refusal.specs.Outcome.{Wrote, wrote, refused, next, filled}
 use Rattle.encoding.specs.Wire.{compact, compactSize, varbytes, putAnswer}
 use Rattle.covenants.specs.Covenant.{contents}
 
@@ -66,11 +66,6 @@ directoryBytes kind source starts lens count = covenantBytes kind (contents sour
 unfoldable pub encodeAnswer : ℕ → List ℕ → List ℕ → List ℕ → ℕ → List ℕ → Wrote
 encodeAnswer kind source starts lens count d =
     next (sizeAnswer source starts lens count) (λ size. putAnswer 0 (directoryBytes kind source starts lens count) d)
-
--- "A write fills exactly the first n bytes and returns n; the rest is untouched"; a refused one touches nothing
-abbrev pub filled : Wrote → List ℕ → List ℕ → List ℕ
-filled (wrote n) bs d = over 0 bs d
-filled (refused k vs) bs d = d
 
 unfoldable pub encodeContent : ℕ → List ℕ → List ℕ → List ℕ → ℕ → List ℕ → List ℕ
 unfolding encodeAnswer

@@ -13,11 +13,11 @@ use encoding::read::ReadSpan;
 ghost use mathlib.Core.Path.{_≡_};
 ghost use mathlib.Core.List.{[]};
 ghost use Prim.Native.Nat.{_≤_};
-ghost use Rattle.refusal.specs.Outcome.{Outcome, past, manyAt};
+ghost use Rattle.refusal.specs.Outcome.{Outcome, past, manyAt, listOf};
 ghost use Rattle.encoding.specs.Paper.{movedPaper};
 ghost use Rattle.covenants.specs.Covenant.{Reading, itemAt, covenantAt, wholeCovenant, skimmed};
 ghost use Rattle.covenants.specs.Paper.{covenantPaper, listed, directoryOf, decodedPaper, shown};
-ghost use Rattle.covenants.specs.Filling.{starts-of, lens-of, kept};
+ghost use Rattle.covenants.specs.Filling.{starts-of, lens-of};
 
 // The answer of a decoder: what was read, and the covenant, all zeros where it was refused.
 pub struct Decoded {
@@ -45,8 +45,8 @@ fn fill(
 ) -> Moved
     requires { ⌜ (start ≤ from .position) × (count ≤ 1000) ⌝ }
     ensures { λ r. ⌜ movedPaper r ≡ past (manyAt (itemAt allowance start (now (s .entry))) count (from .position)) ⌝ }
-    ensures { λ _. ⌜ now (starts .exit) ≡ listed (starts-of (kept (manyAt (itemAt allowance start (now (s .entry))) count (from .position)))) ⌝ }
-    ensures { λ _. ⌜ now (lens .exit) ≡ listed (lens-of (kept (manyAt (itemAt allowance start (now (s .entry))) count (from .position)))) ⌝ }
+    ensures { λ _. ⌜ now (starts .exit) ≡ listed (starts-of (listOf (manyAt (itemAt allowance start (now (s .entry))) count (from .position)))) ⌝ }
+    ensures { λ _. ⌜ now (lens .exit) ≡ listed (lens-of (listOf (manyAt (itemAt allowance start (now (s .entry))) count (from .position)))) ⌝ }
 {
     clear(starts, lens);
     let mut passed: usize = 0;

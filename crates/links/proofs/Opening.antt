@@ -6,7 +6,7 @@ use mathlib.Core.List.{List, [], _∷_, map}
 use mathlib.Core.Bool.{true, false}
 use lib.ListN.{length, length-map}
 use borrow.Author.Tests.{eq-eqb, ne-eqb}
-use Rattle.refusal.specs.Outcome.{Outcome, ok, err, manyAt}
+use Rattle.refusal.specs.Outcome.{Outcome, ok, err, manyAt, listOf}
 use Rattle.refusal.proofs.Many.{many-next, many-none, many-long}
 use Rattle.primitives.specs.declared.Outpoint.{Outpoint}
 use Rattle.primitives.specs.Outpoints.{shownOutpoint, isNull}
@@ -16,7 +16,7 @@ use Rattle.sheets.proofs.Whole.{transaction-is, coins-are}
 use Rattle.sheets.proofs.Counts.{transaction-small, coins-small, inputs-end, outputs-end, outputs-at, transaction-not, coins-not, transaction-holds, coins-hold}
 use Rattle.links.specs.Rules.{Verdict, broken, linksFrom, coinbase, linksOf}
 use Rattle.links.specs.Verify.{plain, told, stopped, verifyOf}
-use Rattle.links.specs.Walk.{listOf, inputsIn, outputsIn, coinsIn, Sheets}
+use Rattle.links.specs.Walk.{inputsIn, outputsIn, coinsIn, Sheets}
 use Rattle.links.proofs.Walking.{outpoint-is}
 
 pub both : (tx coins : List ℕ) {inputs outputs n z : ℕ} → transactionCounts tx ≡ whole (inputs, outputs) → coinCounts coins ≡ whole (n, z) → Sheets tx coins inputs outputs n

@@ -1,10 +1,10 @@
 -- The walk over two sheets that were judged: the words of its workers, no part of the promise.
 use mathlib.Core.Path.{_≡_}
 use Prim.Native.Nat.{ℕ, zero, suc, _+_, _*_, _<_, _^_}
-use mathlib.Core.List.{List, [], map}
+use mathlib.Core.List.{List, map}
 use mathlib.Core.Bool.{Bool}
 use lib.ListN.{length}
-use Rattle.refusal.specs.Outcome.{Outcome, ok, err, manyAt}
+use Rattle.refusal.specs.Outcome.{Outcome, ok, err, manyAt, listOf}
 use Rattle.refusal.specs.Paper.{numberOf, carried}
 use Rattle.primitives.specs.declared.Outpoint.{Outpoint}
 use Rattle.covenants.specs.Kind.{isName}
@@ -17,11 +17,6 @@ use Rattle.links.specs.declared.walk.Pair.{Pair}
 use Rattle.links.specs.declared.walk.Onward.{Onward}
 
 -- ---- what two sheets hold, by counts and positions
-
--- what was read, or nothing
-abbrev pub listOf : {A : Type 0} → Outcome (List A) → List A
-listOf (ok xs end) = xs
-listOf (err k vs p) = []
 
 abbrev pub inputsIn : List ℕ → ℕ → List Outpoint
 inputsIn tx n = listOf (manyAt (inputAt tx) n 4)

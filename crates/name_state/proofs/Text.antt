@@ -9,7 +9,8 @@ use lib.Seq.{take-append-seam, take-all}
 use Rattle.words.specs.Sameness.{same}
 use Rattle.words.proofs.Cases.{by-order}
 use Rattle.words.proofs.Sameness.{same-long, same-append}
-use Rattle.name_state.specs.Paper.{text, padded}
+use Rattle.words.specs.Buffers.{padded}
+use Rattle.name_state.specs.Paper.{text}
 
 pub padded-long : (bs : List ℕ) (m : ℕ) → length bs ≤ m → length (padded m bs) ≡ m
 unfolding padded

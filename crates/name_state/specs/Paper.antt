@@ -3,7 +3,7 @@ use Prim.Native.Nat.{ℕ, _-_}
 use mathlib.Core.List.{List, [], _++_}
 use mathlib.Core.Bool.{true, false}
 use lib.ListN.{length, take, replicate}
-use Rattle.words.specs.Buffers.{pick}
+use Rattle.words.specs.Buffers.{pick, padded}
 use Rattle.primitives.specs.declared.Outpoint.{Outpoint}
 use Rattle.primitives.specs.Outpoints.{outpoint, nullOutpoint, isNull}
 use Rattle.name_state.specs.State.{State, null}
@@ -15,10 +15,6 @@ use Rattle.name_state.specs.declared.Binding.{Binding}
 -- the first n bytes of an array, "bytes past either length .. are ignored"; where n is more than the array has, zeros stand for the others
 unfoldable pub text : ℕ → List ℕ → List ℕ
 text n bs = take n bs ++ replicate (n - length bs) 0
-
--- an array of n bytes that holds bs, zeros past it
-unfoldable pub padded : ℕ → List ℕ → List ℕ
-padded n bs = bs ++ replicate (n - length bs) 0
 
 -- the state that a `NameState` holds
 abbrev pub stateOf : NameState → State

@@ -9,10 +9,10 @@ use lib.Dec.{ltb, eqb}
 use borrow.Author.Tests.{ltb-false, le-ltb, eqb-true}
 use Rattle.refusal.proofs.Outcomes.{never-both, checked}
 use Rattle.words.specs.Buffers.{pick, over}
-use Rattle.refusal.specs.Outcome.{Wrote, wrote, refused}
+use Rattle.refusal.specs.Outcome.{Wrote, wrote, refused, filled}
 use Rattle.encoding.proofs.Compact.{put-none, put-room}
 use Rattle.name_state.specs.State.{State, binding}
-use Rattle.name_states.specs.Written.{stateBytes, checkedSize, encodeAnswer, content, encodeContent}
+use Rattle.name_states.specs.Written.{stateBytes, checkedSize, encodeAnswer, encodeContent}
 
 -- a state that passed the checks
 pub record Passed (t : State) (n : ℕ) : Type 0 where
@@ -51,9 +51,9 @@ passing t p =
     rw (le-ltb 63 (length (t .name)) (p .name), le-ltb 512 (length (t .resource)) (p .resource), le-ltb 9007199254740991 (t .value) (p .value), le-ltb 9007199254740991 (t .highest) (p .highest), p .bound, p .size)
 
 module _ (t : State) (d : List ℕ) where
-  answered : {w : Wrote} → encodeAnswer t d ≡ w → (w ≡ encodeAnswer t d) × (content w (stateBytes t) d ≡ encodeContent t d)
+  answered : {w : Wrote} → encodeAnswer t d ≡ w → (w ≡ encodeAnswer t d) × (filled w (stateBytes t) d ≡ encodeContent t d)
   unfolding encodeContent
-  answered e = (sym e, ap (λ w. content w (stateBytes t) d) (sym e))
+  answered e = (sym e, ap (λ w. filled w (stateBytes t) d) (sym e))
 
   pub encode-refused : {k : ℕ} {vs : List ℕ} → checkedSize t ≡ refused k vs → (refused k vs ≡ encodeAnswer t d) × (d ≡ encodeContent t d)
   unfolding encodeAnswer

@@ -7,12 +7,12 @@ use mathlib.Core.Bool.{Bool, true, false}
 use lib.ListN.{length, take, drop, replicate}
 use lib.Dec.{eqb}
 use Rattle.words.proofs.Le.{part-long}
-use Rattle.words.specs.Buffers.{pick, laid}
+use Rattle.words.specs.Buffers.{pick, laid, padded}
 use Rattle.words.proofs.Over.{over-zeros}
 use Rattle.refusal.specs.Outcome.{Outcome, ok, err, then, past}
 use Rattle.encoding.specs.Wire.{finishAt}
 use Rattle.name_state.specs.State.{State, bitmap, binding}
-use Rattle.name_state.specs.Paper.{padded, stored, stateOf}
+use Rattle.name_state.specs.Paper.{stored, stateOf}
 use Rattle.name_state.specs.declared.NameState.{NameState}
 use Rattle.name_state.proofs.Theorems.{stored-holds}
 use Rattle.name_states.specs.Read.{judgedBits}

@@ -5,8 +5,8 @@ use mathlib.Core.Bool.{Bool, not}
 use lib.ListN.{length}
 use lib.Dec.{ltb, eqb}
 use Rattle.words.specs.Words.{bytes}
-use Rattle.words.specs.Buffers.{pick, over}
-use Rattle.refusal.specs.Outcome.{Wrote, wrote, refused, next}
+use Rattle.words.specs.Buffers.{pick}
+use Rattle.refusal.specs.Outcome.{Wrote, wrote, refused, next, filled}
 use Rattle.encoding.specs.Wire.{compact, putAnswer}
 use Rattle.primitives.specs.Outpoints.{isNull}
 use Rattle.primitives.specs.declared.Outpoint.{Outpoint}
@@ -62,13 +62,8 @@ checkedSize t =
 unfoldable pub encodeAnswer : State → List ℕ → Wrote
 encodeAnswer t d = next (checkedSize t) (λ n. putAnswer 0 (stateBytes t) d)
 
--- "A write fills exactly the first n bytes ..; the rest is untouched"; a refused write changes nothing
-abbrev pub content : Wrote → List ℕ → List ℕ → List ℕ
-content (wrote n) bs d = over 0 bs d
-content (refused k vs) bs d = d
-
 unfoldable pub encodeContent : State → List ℕ → List ℕ
-encodeContent t d = content (encodeAnswer t d) (stateBytes t) d
+encodeContent t d = filled (encodeAnswer t d) (stateBytes t) d
 
 -- ---- the present fields by their values alone, as the code writes them (proofs/Own.antt: the same bytes)
 unfoldable pub ownerBytes : Outpoint → List ℕ

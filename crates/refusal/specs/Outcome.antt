@@ -1,6 +1,7 @@
 -- What reading and writing come to, in the document's numbers.
 use Prim.Native.Nat.{ℕ, zero, suc}
 use mathlib.Core.List.{List, [], _∷_}
+use Rattle.words.specs.Buffers.{over}
 
 -- a read: a value, and the position of the byte after it; or a refusal's number, what it carries, and the position where the reader then
 -- stands (document 01: "A refused read, sheets apart, also returns the position where the Rust's `Decoder` then stands")
@@ -22,6 +23,11 @@ unfoldable pub manyAt : {A : Type 0} → (ℕ → Outcome A) → ℕ → ℕ →
 manyAt read zero at = ok [] at
 manyAt read (suc n) at = then (read at) (λ x next. then (manyAt read n next) (λ xs end. ok (x ∷ xs) end))
 
+-- what was read, or nothing
+abbrev pub listOf : {A : Type 0} → Outcome (List A) → List A
+listOf (ok xs end) = xs
+listOf (err k vs p) = []
+
 -- a write: how many bytes were written, or a refusal's number and what it carries
 pub data Wrote : Type 0 where
   wrote : ℕ → Wrote
@@ -31,3 +37,8 @@ pub data Wrote : Type 0 where
 abbrev pub next : Wrote → (ℕ → Wrote) → Wrote
 next (wrote n) f = f n
 next (refused k vs) f = refused k vs
+
+-- "A write fills exactly the first n bytes and returns n; the rest is untouched"; a refused one touches nothing
+abbrev pub filled : Wrote → List ℕ → List ℕ → List ℕ
+filled (wrote n) bs d = over 0 bs d
+filled (refused k vs) bs d = d

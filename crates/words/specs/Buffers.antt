@@ -1,8 +1,8 @@
 -- Lent bytes that are written to: all of what was asked for, or nothing.
-use Prim.Native.Nat.{ℕ, _+_}
+use Prim.Native.Nat.{ℕ, _+_, _-_}
 use mathlib.Core.Bool.{Bool, true, false}
 use mathlib.Core.List.{List, _++_}
-use lib.ListN.{length, take, drop}
+use lib.ListN.{length, take, drop, replicate}
 use lib.Dec.{leb}
 
 -- the first where the test holds, else the second
@@ -22,3 +22,7 @@ fits at bs d = leb (at + length bs) (length d)
 unfoldable pub laid : ℕ → List ℕ → List ℕ → List ℕ
 unfolding over fits
 laid at bs d = pick (fits at bs d) (over at bs d) d
+
+-- an array of n numbers that holds xs, zeros past them
+unfoldable pub padded : ℕ → List ℕ → List ℕ
+padded n xs = xs ++ replicate (n - length xs) 0
