@@ -10,8 +10,8 @@ use lib.Dec.{T, ltb, lit<, ltb→lt}
 use lib.ListN.{length, getD}
 use Rattle.words.proofs.Table.{both, both-left, both-right}
 use Rattle.words.proofs.Entries.{all-entries}
-use Rattle.blake2b.specs.Blake2b.{ror, iv, sigma, half, lay, G, word, cols, diags, round, row, flagged, start}
-use Rattle.blake2b.specs.Turns.{Row, column, joined, four, turned, back, roundsFrom}
+use Rattle.blake2b.specs.Blake2b.{ror, iv, sigma, half, lay, G, word, cols, diags, round, row, rounds, flagged, start}
+use Rattle.blake2b.specs.Turns.{Row, column, joined, four, turned, back}
 
 -- four lines of G, with the two sums as they were computed
 pub half-law :
@@ -75,9 +75,9 @@ diags-law m s v long = ap (diags m s) (all-entries 16 v long)
 
 -- one round more
 pub round-more :
-    (m a : List ℕ) (k n : ℕ) {v u w : List ℕ} → v ≡ roundsFrom k n m a → u ≡ cols m (row (k + n)) v → w ≡ diags m (row (k + n)) u → w ≡ roundsFrom k (suc n) m a
-unfolding round roundsFrom
-round-more m a k n e f g = rw (g, f, e)
+    (m a : List ℕ) (n : ℕ) {v u w : List ℕ} → v ≡ rounds n m a → u ≡ cols m (row n) v → w ≡ diags m (row n) u → w ≡ rounds (suc n) m a
+unfolding round rounds
+round-more m a n e f g = rw (g, f, e)
 
 -- ---- the work vector: a counter of one word
 

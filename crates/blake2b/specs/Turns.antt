@@ -1,8 +1,8 @@
--- A round as the code runs it: G on the four columns, and the diagonals turned into columns and back. And a run of rounds.
-use Prim.Native.Nat.{ℕ, zero, suc, _+_, _<_}
+-- A round as the code runs it: G on the four columns, and the diagonals turned into columns and back.
+use Prim.Native.Nat.{ℕ, _+_, _<_}
 use mathlib.Core.List.{List, [], _∷_}
 use lib.ListN.{getD}
-use Rattle.blake2b.specs.Blake2b.{G, word, row, round}
+use Rattle.blake2b.specs.Blake2b.{G, word}
 
 -- a row of the schedule: every entry is the number of one of the sixteen words
 abbrev pub Row : List ℕ → Type 0
@@ -46,8 +46,3 @@ back v =
     ∷ getD v 10 0 ∷ getD v 11 0 ∷ getD v 8 0 ∷ getD v 9 0
     ∷ getD v 13 0 ∷ getD v 14 0 ∷ getD v 15 0 ∷ getD v 12 0
     ∷ []
-
--- v after n rounds, of which the first is round k
-unfoldable pub roundsFrom : ℕ → ℕ → List ℕ → List ℕ → List ℕ
-roundsFrom k zero m v = v
-roundsFrom k (suc n) m v = round m (row (k + n)) (roundsFrom k n m v)

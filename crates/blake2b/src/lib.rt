@@ -5,7 +5,7 @@ ghost use Prim.Native.Nat.{ℕ, _+_, _%_, _^_, _≤_, _<_};
 ghost use lib.ListN.{drop, getD};
 ghost use Rattle.words.specs.Words.{bytes, lanes};
 ghost use Rattle.blake2b.specs.Blake2b.{iv, half, word, cols, diags, rounds, flagged, start, folded, F, first, digest, blake2b};
-ghost use Rattle.blake2b.specs.Turns.{Row, column, joined, four, turned, back, roundsFrom};
+ghost use Rattle.blake2b.specs.Turns.{Row, column, joined, four, turned, back};
 use std::num::wrapping_add_u64;
 use words::load::load_u64;
 use words::load::load_words;
@@ -227,59 +227,34 @@ fn begin(h: [u64; 8], t: u64, last: bool) -> [u64; 16]
     ]
 }
 
-// The rounds 0 to 3. The rounds stand in a row and not in a loop: so each row of the schedule is known where its words are read.
-fn rounds_0_to_3(m: &[u64; 16], v: [u64; 16]) -> [u64; 16]
-    ensures { λ r. ⌜ r ≡ roundsFrom 0 4 (now (m .entry)) v ⌝ }
+// The twelve rounds, in a row and not in a loop: so each row of the schedule is known where its words are read.
+fn churn(m: &[u64; 16], v: [u64; 16]) -> [u64; 16]
+    ensures { λ r. ⌜ r ≡ rounds 12 (now (m .entry)) v ⌝ }
 {
     let table = SIGMA;
     let s0 = table[0];
     let s1 = table[1];
     let s2 = table[2];
     let s3 = table[3];
-    let v1 = diagonals(m, &s0, columns(m, &s0, v));
-    let v2 = diagonals(m, &s1, columns(m, &s1, v1));
-    let v3 = diagonals(m, &s2, columns(m, &s2, v2));
-    let v4 = diagonals(m, &s3, columns(m, &s3, v3));
-    v4
-}
-
-// The rounds 4 to 7.
-fn rounds_4_to_7(m: &[u64; 16], v: [u64; 16]) -> [u64; 16]
-    ensures { λ r. ⌜ r ≡ roundsFrom 4 4 (now (m .entry)) v ⌝ }
-{
-    let table = SIGMA;
     let s4 = table[4];
     let s5 = table[5];
     let s6 = table[6];
     let s7 = table[7];
-    let v5 = diagonals(m, &s4, columns(m, &s4, v));
+    let s8 = table[8];
+    let s9 = table[9];
+    let v1 = diagonals(m, &s0, columns(m, &s0, v));
+    let v2 = diagonals(m, &s1, columns(m, &s1, v1));
+    let v3 = diagonals(m, &s2, columns(m, &s2, v2));
+    let v4 = diagonals(m, &s3, columns(m, &s3, v3));
+    let v5 = diagonals(m, &s4, columns(m, &s4, v4));
     let v6 = diagonals(m, &s5, columns(m, &s5, v5));
     let v7 = diagonals(m, &s6, columns(m, &s6, v6));
     let v8 = diagonals(m, &s7, columns(m, &s7, v7));
-    v8
-}
-
-// The rounds 8 to 11, of which the last two have the first rows again.
-fn rounds_8_to_11(m: &[u64; 16], v: [u64; 16]) -> [u64; 16]
-    ensures { λ r. ⌜ r ≡ roundsFrom 8 4 (now (m .entry)) v ⌝ }
-{
-    let table = SIGMA;
-    let s8 = table[8];
-    let s9 = table[9];
-    let s0 = table[0];
-    let s1 = table[1];
-    let v9 = diagonals(m, &s8, columns(m, &s8, v));
+    let v9 = diagonals(m, &s8, columns(m, &s8, v8));
     let v10 = diagonals(m, &s9, columns(m, &s9, v9));
     let v11 = diagonals(m, &s0, columns(m, &s0, v10));
     let v12 = diagonals(m, &s1, columns(m, &s1, v11));
     v12
-}
-
-// All twelve rounds.
-fn churn(m: &[u64; 16], v: [u64; 16]) -> [u64; 16]
-    ensures { λ r. ⌜ r ≡ rounds 12 (now (m .entry)) v ⌝ }
-{
-    rounds_8_to_11(m, rounds_4_to_7(m, rounds_0_to_3(m, v)))
 }
 
 // The two halves of v folded into h.
