@@ -149,14 +149,21 @@ module _ (limit : ℕ) (s : List ℕ) (at : ℕ) {allowance : ℕ} (capped : all
     pub skim-body : covenantAt limit s at ≡ then Items (finished (head .0) at)
     skim-body = covenant-opened limit s at capped ∙ rw e
 
-    pub skim-stopped : {k : ℕ} {vs : List ℕ} {p : ℕ} → past Items ≡ err k vs p → err k vs p ≡ skimmed (covenantAt limit s at)
+    skim-stopped : {k : ℕ} {vs : List ℕ} {p : ℕ} → past Items ≡ err k vs p → err k vs p ≡ skimmed (covenantAt limit s at)
     skim-stopped f = rw (skim-body, then-err Items (finished (head .0) at) f)
 
-    pub skim-ended : {end : ℕ} → past Items ≡ ok tt end → ok (head .0, head .1, end - at) end ≡ skimmed (covenantAt limit s at)
+    skim-ended : {end : ℕ} → past Items ≡ ok tt end → ok (head .0, head .1, end - at) end ≡ skimmed (covenantAt limit s at)
     skim-ended {end} f =
         let r = past-ok Items f in
         let n = many-long (itemAt allowance at s) (head .1) next (r .1) in
         rw (skim-body, r .1, n)
+
+    pub skim-completed : then (past Items) (λ u end. ok (head .0, head .1, end - at) end) ≡ skimmed (covenantAt limit s at)
+    skim-completed = go (past Items) refl
+      where
+        go : (o : Outcome Unit) → past Items ≡ o → then o (λ u end. ok (head .0, head .1, end - at) end) ≡ skimmed (covenantAt limit s at)
+        go (ok u end) f = skim-ended f
+        go (err k vs p) f = skim-stopped f
 
     pub skim-later : {end : ℕ} → length s < 2 ^ 64 → past Items ≡ ok tt end → at ≤ end
     skim-later {end} big f =

@@ -3,6 +3,7 @@ use crate::Covenant;
 use crate::ReadCovenant;
 use crate::ReadHead;
 use crate::capped;
+use crate::completed;
 use crate::item;
 use crate::opened;
 use crate::short::short_entries;
@@ -123,18 +124,8 @@ impl Covenant {
         let allowance = capped(limit);
         match opened(c, s, allowance) {
             ReadHead::Head { kind, count, next } => {
-                match fill(next, s, c.position, allowance, count, starts, lens) {
-                    Moved::To(end) => {
-                        let used = end.position - c.position;
-                        ReadCovenant::Accepted {
-                            kind,
-                            count,
-                            used,
-                            next: end,
-                        }
-                    }
-                    Moved::Refused(stop) => ReadCovenant::Refused(stop),
-                }
+                let passed = fill(next, s, c.position, allowance, count, starts, lens);
+                completed(c.position, kind, count, passed)
             }
             ReadHead::Refused(stop) => {
                 clear(starts, lens);

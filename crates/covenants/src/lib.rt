@@ -15,8 +15,8 @@ use encoding::read::ReadU8;
 use refusal::Refusal;
 use refusal::Stop;
 ghost use mathlib.Core.Path.{_≡_};
-ghost use Prim.Native.Nat.{_+_, _≤_, min};
-ghost use Rattle.refusal.specs.Outcome.{past, manyAt};
+ghost use Prim.Native.Nat.{ℕ, _+_, _-_, _≤_, min};
+ghost use Rattle.refusal.specs.Outcome.{ok, then, past, manyAt};
 ghost use Rattle.refusal.specs.declared.Refusal.{Refusal};
 ghost use Rattle.encoding.specs.Paper.{spanPaper, movedPaper};
 ghost use Rattle.covenants.specs.Covenant.{itemAt, headAt, opening, covenantAt, skimmed};
@@ -44,18 +44,8 @@ impl Covenant {
         let allowance = capped(limit);
         match opened(c, s, allowance) {
             ReadHead::Head { kind, count, next } => {
-                match pass_items(next, &s[..], c.position, allowance, count) {
-                    Moved::To(end) => {
-                        let used = end.position - c.position;
-                        ReadCovenant::Accepted {
-                            kind,
-                            count,
-                            used,
-                            next: end,
-                        }
-                    }
-                    Moved::Refused(stop) => ReadCovenant::Refused(stop),
-                }
+                let passed = pass_items(next, &s[..], c.position, allowance, count);
+                completed(c.position, kind, count, passed)
             }
             ReadHead::Refused(stop) => ReadCovenant::Refused(stop),
         }
@@ -164,6 +154,25 @@ pub(crate) fn opened(c: Cursor, s: &[u8], allowance: usize) -> ReadHead
         return ReadHead::Refused(too_large(2, allowance, at));
     }
     head(c, s, allowance)
+}
+
+// A covenant that began at `start`, once its items were passed or one of them refused.
+pub(crate) fn completed(start: usize, kind: u8, count: usize, passed: Moved) -> ReadCovenant
+    requires { ⌜ ((end : ℕ) → movedPaper passed ≡ ok tt end → start ≤ end) ⌝ }
+    ensures { λ r. ⌜ covenantPaper r ≡ then (movedPaper passed) (λ _ end. ok (kind, count, end - start) end) ⌝ }
+{
+    match passed {
+        Moved::To(end) => {
+            let used = end.position - start;
+            ReadCovenant::Accepted {
+                kind,
+                count,
+                used,
+                next: end,
+            }
+        }
+        Moved::Refused(stop) => ReadCovenant::Refused(stop),
+    }
 }
 
 // So many items of a covenant that began at `start` are passed.
