@@ -13,7 +13,7 @@ use Rattle.encoding.specs.Wire.{bytesAt, fixedAt}
 use Rattle.encoding.proofs.Fixed.{bytes-read}
 use Rattle.encoding.proofs.Slice as slice
 use Rattle.covenants.specs.Covenant.{itemAt}
-use Rattle.covenants.specs.Items.{Maybe, there, absent, found, spelled, wide, numberIn}
+use Rattle.covenants.specs.Items.{there, absent, found, spelled, wide, numberIn}
 use Rattle.covenants.proofs.Moves.{items-move}
 
 module _ (n : ℕ) (s : List ℕ) (start len : ℕ) where
@@ -21,6 +21,10 @@ module _ (n : ℕ) (s : List ℕ) (start len : ℕ) where
   pub wide-other : (len ≡ n → ⊥) → wide n s (there (start, len)) ≡ absent
   unfolding wide
   wide-other h = simp (ne-eqb len n h)
+
+  pub number-other : (len ≡ n → ⊥) → numberIn n s (there (start, len)) ≡ absent
+  unfolding numberIn
+  number-other h = rw (wide-other h)
 
   module _ (same : len ≡ n) (big : length s < 2 ^ 64) where
     pub wide-read : {bs : List ℕ} {next : ℕ} → bytesAt n s start ≡ ok bs next → wide n s (there (start, len)) ≡ there bs
@@ -53,16 +57,6 @@ module _ (n : ℕ) (s : List ℕ) (start len : ℕ) where
         go : (o : Outcome (List ℕ)) → bytesAt n s start ≡ o → then o (λ bs next. ok (le bs) next) ≡ err k vs p → spelled (wide n s (there (start, len))) ≡ absent
         go (ok bs q) f g = absurd (never refl g)
         go (err k′ vs′ q) f g = ap spelled (wide-none f)
-
--- where no byte is, there is no item
-pub wide-beyond : (n : ℕ) (s : List ℕ) → length s + 1 < 2 ^ 64 → wide n s (there (18446744073709551615, n)) ≡ absent
-unfolding wide
-wide-beyond n s h = simp (lt-leb (18446744073709551615 + n) (length s) (omega arith), eq-eqb n n refl)
-
--- a number follows the bytes
-pub number-sought : (n : ℕ) (s : List ℕ) (i j : Maybe (ℕ × ℕ)) → wide n s i ≡ wide n s j → numberIn n s i ≡ numberIn n s j
-unfolding numberIn
-number-sought n s i j e = ap spelled e
 
 -- ---- a scan for an item, after those before it were passed
 

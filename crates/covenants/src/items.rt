@@ -13,13 +13,12 @@ use primitives::NameHash;
 use words::store::has_room;
 ghost use mathlib.Core.Path.{_≡_};
 ghost use mathlib.Core.Bool.{true, false};
-ghost use mathlib.Core.List.{List};
-ghost use Prim.Native.Nat.{ℕ, _+_, _^_, _≤_, _<_};
+ghost use Prim.Native.Nat.{_≤_, _<_};
 ghost use lib.ListN.{length, getD};
 ghost use Rattle.refusal.specs.Outcome.{then, manyAt};
 ghost use Rattle.covenants.specs.Covenant.{itemAt};
 ghost use Rattle.covenants.specs.Filling.{TwoShort};
-ghost use Rattle.covenants.specs.Items.{there, absent, found, directoryItem, seekAt, wide, numberIn};
+ghost use Rattle.covenants.specs.Items.{absent, found, directoryItem, seekAt, wide, numberIn};
 ghost use Rattle.covenants.specs.Paper.{spotPaper, itemU8Paper, itemU32Paper, itemU64Paper, nameHashPaper, shownHash};
 
 // Where an item stands: the Rust's `Option<&[u8]>`.
@@ -66,66 +65,83 @@ fn no_hash() -> ItemNameHash
 
 // An item answers as a number or a hash only where it is as wide and lies within the bytes.
 impl Spot {
-    // Where an item of a width is read. One of another width, or none, is sought where no byte is.
-    fn sought(self, width: usize) -> Cursor
-        ensures { λ r. ⌜ ((s : List ℕ) → length s + 1 < 2 ^ 64 → wide width s (there (r .position, width)) ≡ wide width s (spotPaper self)) ⌝ }
-    {
-        match self {
-            Spot::Part { start, len } => {
-                if len == width {
-                    return Cursor { position: start };
-                }
-                Cursor {
-                    position: 0xffff_ffff_ffff_ffff,
-                }
-            }
-            Spot::Absent => Cursor {
-                position: 0xffff_ffff_ffff_ffff,
-            },
-        }
-    }
-
     pub fn as_u8(self, s: &[u8]) -> ItemU8
         ensures { λ r. ⌜ itemU8Paper r ≡ numberIn 1 (now (s .entry)) (spotPaper self) ⌝ }
     {
-        match self.sought(1).read_u8(s) {
-            ReadU8::Value(v, _) => ItemU8::Value(v),
-            ReadU8::Refused(_) => ItemU8::Absent,
+        match self {
+            Spot::Part { start, len } => {
+                if len != 1 {
+                    return ItemU8::Absent;
+                }
+                let place = Cursor { position: start };
+                match place.read_u8(s) {
+                    ReadU8::Value(v, _) => ItemU8::Value(v),
+                    ReadU8::Refused(_) => ItemU8::Absent,
+                }
+            }
+            Spot::Absent => ItemU8::Absent,
         }
     }
 
     pub fn as_u32(self, s: &[u8]) -> ItemU32
         ensures { λ r. ⌜ itemU32Paper r ≡ numberIn 4 (now (s .entry)) (spotPaper self) ⌝ }
     {
-        match self.sought(4).read_u32_le(s) {
-            ReadU32::Value(v, _) => ItemU32::Value(v),
-            ReadU32::Refused(_) => ItemU32::Absent,
+        match self {
+            Spot::Part { start, len } => {
+                if len != 4 {
+                    return ItemU32::Absent;
+                }
+                let place = Cursor { position: start };
+                match place.read_u32_le(s) {
+                    ReadU32::Value(v, _) => ItemU32::Value(v),
+                    ReadU32::Refused(_) => ItemU32::Absent,
+                }
+            }
+            Spot::Absent => ItemU32::Absent,
         }
     }
 
     pub fn as_u64(self, s: &[u8]) -> ItemU64
         ensures { λ r. ⌜ itemU64Paper r ≡ numberIn 8 (now (s .entry)) (spotPaper self) ⌝ }
     {
-        match self.sought(8).read_u64_le(s) {
-            ReadU64::Value(v, _) => ItemU64::Value(v),
-            ReadU64::Refused(_) => ItemU64::Absent,
+        match self {
+            Spot::Part { start, len } => {
+                if len != 8 {
+                    return ItemU64::Absent;
+                }
+                let place = Cursor { position: start };
+                match place.read_u64_le(s) {
+                    ReadU64::Value(v, _) => ItemU64::Value(v),
+                    ReadU64::Refused(_) => ItemU64::Absent,
+                }
+            }
+            Spot::Absent => ItemU64::Absent,
         }
     }
 
     pub fn as_name_hash(self, s: &[u8]) -> ItemNameHash
         ensures { λ r. ⌜ nameHashPaper r ≡ shownHash (wide 32 (now (s .entry)) (spotPaper self)) ⌝ }
     {
-        let read = self.sought(32).read_array(s);
-        let moved = read.moved;
-        match moved {
-            Moved::To(_) => {
-                let bytes = read.bytes;
-                ItemNameHash {
-                    found: true,
-                    hash: NameHash(bytes),
+        match self {
+            Spot::Part { start, len } => {
+                if len != 32 {
+                    return no_hash();
+                }
+                let place = Cursor { position: start };
+                let read = place.read_array(s);
+                let moved = read.moved;
+                match moved {
+                    Moved::To(_) => {
+                        let bytes = read.bytes;
+                        ItemNameHash {
+                            found: true,
+                            hash: NameHash(bytes),
+                        }
+                    }
+                    Moved::Refused(_) => no_hash(),
                 }
             }
-            Moved::Refused(_) => no_hash(),
+            Spot::Absent => no_hash(),
         }
     }
 }

@@ -1,35 +1,62 @@
 use borrow.Author.Needs.{needs}
 use native.Mathlib.Omega.{arith}
-use mathlib.Core.Path.{refl, sym, _∙_}
+use mathlib.Core.Path.{ap, sym, _∙_}
 use Rattle.encoding.specs.Paper.{u64Paper}
 use Rattle.refusal.proofs.Outcomes.{told}
-use Rattle.covenants.proofs.Places.{number-read, number-none, number-sought}
+use Rattle.covenants.proofs.Places.{number-other, number-read, number-none}
+use Rattle.covenants.specs.Paper.{spotPaper}
+use Rattle.covenants.specs.Items.{numberIn}
+use Rattle.covenants.specs.Items.{wide}
 use Rattle.covenants.proofs.items.Spot.as_u64.Statement.{statement}
 use Rattle.covenants.proofs.items.Spot.as_u64.Tie as tie
-use Rattle.covenants.proofs.items.Spot.as_u64.Reads as reads
-use Rattle.covenants.proofs.items.Spot.as_u64.Lts as lts
-use Rattle.covenants.proofs.items.Spot.sought.Reads as sought-reads
-use Rattle.encoding.proofs.read.Cursor.read_u64_le.Reads as read-u64-le-reads
 
-sought-requires : tie.Need-sought-requires
-sought-requires c κs = search needs
+-- src/items.rt:100:26
+enum-known-self : tie.Need-enum-known-self
+enum-known-self c = search needs
 
+-- src/items.rt:102:21
+returns : tie.Need-returns
+returns c = sym (ap (λ i. numberIn 8 (c .before .before .before .before .before .args .s .now) (spotPaper i)) (c .before .before .self .given .1) ∙ number-other _ _ _ _ (c .if1 .taken))
+
+-- src/items.rt:105:23
 read-u64-le-requires : tie.Need-read-u64-le-requires
 read-u64-le-requires c κs = search needs
 
+-- src/items.rt:106:36
 enum-known-v : tie.Need-enum-known-v
 enum-known-v c = search needs
 
+-- src/items.rt:107:44
 enum-told : tie.Need-enum-told
 enum-told c = search needs
 
-returns : tie.Need-returns
-returns c = sym (number-read _ _ _ _ refl (omega arith) (told u64Paper (c .before .before .before .read-u64-le .ensures) (c .before .v .given .1))) ∙ number-sought _ _ _ _ (c .before .before .before .before .sought .ensures _ (omega arith))
+-- src/items.rt:110:29
+enum-told-2 : tie.Need-enum-told-2
+enum-told-2 c = search needs
 
+-- src/items.rt:96:5
 returns-2 : tie.Need-returns-2
-returns-2 c = sym (number-none _ _ _ _ refl (omega arith) (told u64Paper (c .before .before .read-u64-le .ensures) (c .enum-told .given .1))) ∙ number-sought _ _ _ _ (c .before .before .before .sought .ensures _ (omega arith))
+returns-2 c = sym (ap (λ i. numberIn 8 (c .before .before .before .before .before .before .before .before .before .args .s .now) (spotPaper i)) (c .before .before .before .before .before .before .self .given .1) ∙ number-read _ _ _ _ (c .before .before .before .before .if1 .left) (omega arith) (told u64Paper (c .before .before .before .read-u64-le .ensures) (c .before .v .given .1)))
+
+-- src/items.rt:96:5
+returns-3 : tie.Need-returns-3
+returns-3 c = sym (ap (λ i. numberIn 8 (c .before .before .before .before .before .before .before .before .args .s .now) (spotPaper i)) (c .before .before .before .before .before .self .given .1) ∙ number-none _ _ _ _ (c .before .before .before .if1 .left) (omega arith) (told u64Paper (c .before .before .read-u64-le .ensures) (c .enum-told .given .1)))
+
+-- src/items.rt:96:5
+returns-4 : tie.Need-returns-4
+unfolding numberIn wide
+returns-4 c = rw (c .enum-told2 .given .1)
 
 pub as-u64-spec : {M : Type 1} → statement M
 as-u64-spec =
     tie.close
-    (tie.spec sought-requires read-u64-le-requires enum-known-v enum-told returns returns-2)
+    (tie.spec
+    enum-known-self
+    returns
+    read-u64-le-requires
+    enum-known-v
+    enum-told
+    enum-told-2
+    returns-2
+    returns-3
+    returns-4)
