@@ -1,5 +1,6 @@
 """Runs a program of the repository in a folder of its own, with the files it reads, and compares the line it writes."""
 
+import os
 import subprocess
 import tempfile
 import unittest
@@ -16,13 +17,17 @@ class ProgramCase(unittest.TestCase):
     def setUp(self):
         self.assertTrue((PROGRAMS / self.program).is_file(), f"{self.program} is not built: rt check {self.program}")
 
-    def assert_line(self, line, files):
-        """With these files, by name, the program writes exactly this line, and nothing to its errors."""
+    def assert_line(self, line, files, before=None):
+        """With these files, by name, the program writes exactly this line, and nothing to its errors. `before` is done in its process before it runs."""
         with tempfile.TemporaryDirectory() as folder:
             for name, content in files.items():
                 (Path(folder) / name).write_bytes(content)
-            answer = subprocess.run([str(PROGRAMS / self.program)], cwd=folder, capture_output=True, timeout=60)
+            answer = subprocess.run([str(PROGRAMS / self.program)], cwd=folder, capture_output=True, timeout=60, preexec_fn=before)
         self.assertEqual((answer.stdout, answer.stderr, answer.returncode), (line.encode() + b"\n", b"", 0))
+
+    def assert_line_without_input(self, line, files):
+        """The same where the program has no standard input, so that the first file that it opens is descriptor 0."""
+        self.assert_line(line, files, before=lambda: os.close(0))
 
 
 def compact(value):

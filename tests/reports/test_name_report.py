@@ -52,6 +52,9 @@ class NameReport(ProgramCase):
     def test_the_document_s_line(self):
         self.assert_line("state null name=0 bytes=13", {"state.bin": bytes(45)})
 
+    def test_without_standard_input(self):
+        self.assert_line_without_input("state null name=0 bytes=13", {"state.bin": bytes(45)})
+
     def test_null_with_any_name_under_any_key(self):
         self.assert_says("state null name=1 bytes=14", ANY_KEY, bytes.fromhex("0141") + bytes(12))
         self.assert_says("state null name=5 bytes=18", ANY_KEY, record(name=b"alice"))
