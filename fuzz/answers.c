@@ -31,8 +31,11 @@ PLACED(covenant_decode, turgamysk_covenant_answer, bytes, size_t, size_t *, size
 PLACED(covenant_decode_from, turgamysk_covenant_answer, bytes, size_t, size_t, size_t, size_t *, size_t *);
 PLACED(covenant_encode, turgamysk_write_answer, uint8_t *, size_t, uint8_t, bytes, size_t, numbers, numbers, size_t);
 PLACED(covenant_encoded_size, turgamysk_write_answer, bytes, size_t, numbers, numbers, size_t);
-PLACED(covenant_run_next, turgamysk_step_answer, bytes, size_t, size_t, size_t, size_t);
-PLACED(covenant_read_run, turgamysk_run_answer, bytes, size_t, size_t);
+PLACED(covenant_run_next, turgamysk_step_answer, bytes, size_t, size_t, size_t);
+PLACED(covenant_run_next_with_limit, turgamysk_step_answer, bytes, size_t, size_t, size_t, size_t);
+PLACED(covenant_read_run, turgamysk_run_answer, bytes, size_t);
+PLACED(covenant_read_run_with_limit, turgamysk_run_answer, bytes, size_t, size_t);
+PLACED(covenant_import_archive, turgamysk_run_answer, bytes, size_t);
 PLACED(covenant_find, turgamysk_view_answer, bytes, size_t, size_t, size_t);
 PLACED(covenant_item, turgamysk_view_answer, bytes, size_t, numbers, numbers, size_t, size_t);
 PLACED(name_state_decode, turgamysk_state_answer, bytes, bytes, size_t);
@@ -110,8 +113,11 @@ static void check_covenants(const arguments *with) {
     CHECK(covenant_decode_from, turgamysk_covenant_answer, with->source, with->length, with->position, with->limit, with->starts, with->lens);
     CHECK(covenant_encode, turgamysk_write_answer, with->room, ROOM, 1, with->source, with->length, with->starts, with->lens, with->limit);
     CHECK(covenant_encoded_size, turgamysk_write_answer, with->source, with->length, with->starts, with->lens, with->limit);
-    CHECK(covenant_run_next, turgamysk_step_answer, with->source, with->length, with->limit, with->position, with->limit);
-    CHECK(covenant_read_run, turgamysk_run_answer, with->source, with->length, with->limit);
+    CHECK(covenant_run_next, turgamysk_step_answer, with->source, with->length, with->position, with->limit);
+    CHECK(covenant_run_next_with_limit, turgamysk_step_answer, with->source, with->length, with->limit, with->position, with->limit);
+    CHECK(covenant_read_run, turgamysk_run_answer, with->source, with->length);
+    CHECK(covenant_read_run_with_limit, turgamysk_run_answer, with->source, with->length, with->limit);
+    CHECK(covenant_import_archive, turgamysk_run_answer, with->source, with->length);
     CHECK(covenant_find, turgamysk_view_answer, with->source, with->length, with->position, with->limit);
     CHECK(covenant_item, turgamysk_view_answer, with->source, with->length, with->starts, with->lens, with->limit, with->position);
 }

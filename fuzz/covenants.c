@@ -336,8 +336,8 @@ static void check_kind(uint8_t kind) {
 }
 
 static turgamysk_step_answer check_step(lent_bytes source, size_t limit, size_t position, size_t count) {
-    turgamysk_step_answer step = turgamysk_covenant_run_next(source.bytes, source.length, limit, position, count);
-    answered(ENTRY_covenant_run_next, VERDICT(step));
+    turgamysk_step_answer step = turgamysk_covenant_run_next_with_limit(source.bytes, source.length, limit, position, count);
+    answered(ENTRY_covenant_run_next_with_limit, VERDICT(step));
     witness(step.position);
     bool covenant = step.number == 0 && !step.ended;
     REQUIRE(step.ended == (position == source.length));
@@ -353,14 +353,39 @@ static turgamysk_step_answer check_step(lent_bytes source, size_t limit, size_t 
     return step;
 }
 
+/* The default's step is the one under the largest allowance. */
+static void check_default_step(lent_bytes source, size_t position, size_t count) {
+    turgamysk_step_answer step = turgamysk_covenant_run_next(source.bytes, source.length, position, count);
+    answered(ENTRY_covenant_run_next, VERDICT(step));
+    turgamysk_step_answer same = check_step(source, LARGEST_COVENANT, position, count);
+    REQUIRE(same_verdict(VERDICT(step), VERDICT(same)) && step.position == same.position && step.ended == same.ended);
+    REQUIRE(step.kind == same.kind && step.count == same.count && step.used == same.used && step.covenants == same.covenants);
+}
+
+static void check_default_run(turgamysk_run_answer run, turgamysk_run_answer same) {
+    REQUIRE(same_verdict(VERDICT(run), VERDICT(same)));
+    REQUIRE(run.position == same.position && run.covenants == same.covenants);
+}
+
+/* So are its runs, and the archive's. */
+static void check_default_runs(lent_bytes source) {
+    turgamysk_run_answer run = turgamysk_covenant_read_run(source.bytes, source.length);
+    answered(ENTRY_covenant_read_run, VERDICT(run));
+    turgamysk_run_answer archive = turgamysk_covenant_import_archive(source.bytes, source.length);
+    answered(ENTRY_covenant_import_archive, VERDICT(archive));
+    turgamysk_run_answer same = turgamysk_covenant_read_run_with_limit(source.bytes, source.length, LARGEST_COVENANT);
+    check_default_run(run, same);
+    check_default_run(archive, same);
+}
+
 /* Step by step to the end; a run of more covenants than can be read in good time is left. */
 static void check_run(lent_bytes source, size_t limit) {
     turgamysk_step_answer step = check_step(source, limit, 0, 0);
     while (step.number == 0 && !step.ended && step.covenants < STEPS_CHECKED) {
         step = check_step(source, limit, step.position, step.covenants);
     }
-    turgamysk_run_answer run = turgamysk_covenant_read_run(source.bytes, source.length, limit);
-    answered(ENTRY_covenant_read_run, VERDICT(run));
+    turgamysk_run_answer run = turgamysk_covenant_read_run_with_limit(source.bytes, source.length, limit);
+    answered(ENTRY_covenant_read_run_with_limit, VERDICT(run));
     witness(run.covenants);
     if (step.number == 0 && !step.ended) {
         REQUIRE(run.covenants >= step.covenants);
@@ -379,7 +404,9 @@ void play(test_case given) {
     check_read(source, 0, SIZE_MAX, missing);
     check_run(source, limit);
     check_run(source, SIZE_MAX);
+    check_default_runs(source);
     check_step(source, limit, position, SIZE_MAX - missing);
+    check_default_step(source, position, SIZE_MAX - missing);
     find(source, position, missing);
     check_decode(source, given.payload, &given.choose);
     check_made_directory(source, given.payload, &given.choose);

@@ -113,7 +113,10 @@ uint8_t *lent_by(const region *lender);
     ENTRY(covenant_encode, REFUSAL(5) | REFUSAL(29) | REFUSAL(30))                                                                                   \
     ENTRY(covenant_encoded_size, REFUSAL(5) | REFUSAL(30))                                                                                           \
     ENTRY(covenant_run_next, REFUSALS_COVENANT)                                                                                                      \
+    ENTRY(covenant_run_next_with_limit, REFUSALS_COVENANT)                                                                                           \
     ENTRY(covenant_read_run, REFUSALS_COVENANT)                                                                                                      \
+    ENTRY(covenant_read_run_with_limit, REFUSALS_COVENANT)                                                                                           \
+    ENTRY(covenant_import_archive, REFUSALS_COVENANT)                                                                                                \
     ENTRY(covenant_find, 0)                                                                                                                          \
     ENTRY(covenant_item, 0)                                                                                                                          \
     ENTRY(covenant_item_u8, 0)                                                                                                                       \

@@ -357,11 +357,21 @@ typedef struct {
     uint64_t value;
 } turgamysk_item_answer;
 
-/* The next covenant of a run, from `position` on and after `count` covenants, under an allowance of `limit` bytes; a run starts at 0, 0. */
-turgamysk_step_answer turgamysk_covenant_run_next(const uint8_t *source, size_t length, size_t limit, size_t position, size_t count);
+/* The next covenant of a run, from `position` on and after `count` covenants; 1,000,009 bytes are allowed for it.
+ * A run starts at 0, 0. */
+turgamysk_step_answer turgamysk_covenant_run_next(const uint8_t *source, size_t length, size_t position, size_t count);
 
-/* The whole run, read to its end. */
-turgamysk_run_answer turgamysk_covenant_read_run(const uint8_t *source, size_t length, size_t limit);
+/* The same under an allowance of `limit` bytes. */
+turgamysk_step_answer turgamysk_covenant_run_next_with_limit(const uint8_t *source, size_t length, size_t limit, size_t position, size_t count);
+
+/* The whole run, read to its end, 1,000,009 bytes allowed for each covenant. */
+turgamysk_run_answer turgamysk_covenant_read_run(const uint8_t *source, size_t length);
+
+/* The same under an allowance of `limit` bytes for each covenant. */
+turgamysk_run_answer turgamysk_covenant_read_run_with_limit(const uint8_t *source, size_t length, size_t limit);
+
+/* An archive, which is a run of covenants, read to its end, 1,000,009 bytes allowed for each covenant. */
+turgamysk_run_answer turgamysk_covenant_import_archive(const uint8_t *source, size_t length);
 
 /* Item number `index` of the covenant at `position`, found without a directory. */
 turgamysk_view_answer turgamysk_covenant_find(const uint8_t *source, size_t length, size_t position, size_t index);

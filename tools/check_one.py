@@ -16,10 +16,11 @@ from collections import Counter
 from check_surface import EXCEPTIONS, public_functions
 from repository import (
     BACKTICKED,
-    SEPARATORS,
+    GHOST_USE,
     Findings,
     ensures_of,
     list_files,
+    names_of,
     only_section,
     proof_code,
     read,
@@ -27,15 +28,13 @@ from repository import (
     report,
     root_of,
     tables_of,
+    words_of,
 )
 
 LEFT_OPEN_SECTION = "## Results that a contract leaves open"
 THEOREM = re.compile(r"^(?P<margin> *)pub (?P<name>[^\s:]+-one) :", re.MULTILINE)
 ABBREVIATION = re.compile(r"^ *abbrev (?P<name>[^\s:]+) :", re.MULTILINE)
-GHOST_USE = re.compile(r"\bghost use (?P<module>[^\s;{]*)\.\{(?P<names>[^}]*)\};")
 USE = re.compile(r"^use (?P<module>[^\s{]*)\.\{(?P<names>[^}]*)\}", re.MULTILINE)
-FIELD = re.compile(r"\s\.\s*[^\s(){}.;,]+")
-TOKEN = re.compile(rf"[^{SEPARATORS}⌜⌝]+")
 
 
 def theorem_of(name, shared):
@@ -43,11 +42,6 @@ def theorem_of(name, shared):
     crate, *owners, function = name.split("::")
     parts = [owners[-1].lower(), function] if shared and owners else [function]
     return "-".join(parts).replace("_", "-") + "-one"
-
-
-def words_of(text):
-    """How often each name and number stands in a text of antt, fields apart."""
-    return Counter(TOKEN.findall(FIELD.sub(" ", text)))
 
 
 def parts_of(code, start):
@@ -84,7 +78,7 @@ def brought_by(text, use):
     brought = set()
     for match in use.finditer(text):
         if ".specs." in match["module"] and ".declared." not in match["module"]:
-            brought.update(re.split(r"[\s,]+", match["names"].strip()))
+            brought.update(names_of(match["names"]))
     return brought
 
 

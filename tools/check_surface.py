@@ -1,5 +1,7 @@
 """Checks what the crates offer: every source stands in a listed crate, every public function of a library has an
-`ensures` and no `requires` but those that docs/EXCEPTIONS.md lists, and no specification or proof assumes anything.
+`ensures` and no `requires` but those that docs/EXCEPTIONS.md lists, its contract leans on no file Workers.antt of
+specs/, whose words are for private functions, and no specification or proof assumes anything, or has a position of the
+code, which goes stale.
 
     python3 tools/check_surface.py [ROOT]
 """
@@ -10,11 +12,14 @@ from pathlib import PurePosixPath
 
 from repository import (
     BACKTICKED,
+    GHOST_USE,
     SEPARATORS,
     Findings,
+    ensures_of,
     functions_of,
     line_at,
     list_files,
+    names_of,
     only_section,
     proof_code,
     rattle_code,
@@ -23,6 +28,7 @@ from repository import (
     report,
     root_of,
     tables_of,
+    words_of,
 )
 
 EXCEPTIONS = "docs/EXCEPTIONS.md"
@@ -30,6 +36,12 @@ EXCEPTIONS_SECTION = "## Public functions with a requires"
 
 # antt's holes are `?`, `?name` and the probe `{! .. !}`; `getElem?` is a name.
 ASSUMED = re.compile(rf"(?<![^{SEPARATORS}])(?:axiom|postulate|\?[^{SEPARATORS}]*)(?![^{SEPARATORS}])|\{{!")
+
+POSITION = re.compile(r"[\w/]+\.rt:\d[\d:]*")
+
+# A file of specs/, as a `use` names it in its own crate and in others.
+SPECIFICATION = re.compile(r"\bRattle·(?P<crate>\w+)(?:·specs)?\.specs\.(?P<file>\w+)")
+WORKERS = "Workers.antt"
 
 
 def is_source(path):
@@ -95,14 +107,69 @@ def check_exceptions(functions, exceptions, findings):
             findings.add(EXCEPTIONS, line, f"stale: {name} has no requires any more")
 
 
-def check_assumptions(root, crates, files, findings):
-    """Nothing in the crates is assumed or left open."""
+def proof_files(crates, files):
+    """The specifications and proofs of the crates."""
     for path in files:
         parts = path.split("/")
         if path.endswith(".antt") and parts[0] == "crates" and parts[1] in crates:
-            code = proof_code(read(root / path))
-            for match in ASSUMED.finditer(code):
-                findings.add(path, line_at(code, match.start()), f"assumed or left open: {match.group()}")
+            yield path
+
+
+def check_assumptions(root, paths, findings):
+    """Nothing in the crates is assumed or left open."""
+    for path in paths:
+        code = proof_code(read(root / path))
+        for match in ASSUMED.finditer(code):
+            findings.add(path, line_at(code, match.start()), f"assumed or left open: {match.group()}")
+
+
+def check_positions(root, paths, findings):
+    """No proof says where in the code something stands."""
+    for path in paths:
+        text = read(root / path)
+        for match in POSITION.finditer(text):
+            findings.add(path, line_at(text, match.start()), f"a position of the code: {match.group()}")
+
+
+def specification_of(match):
+    return f"crates/{match['crate']}/specs/{match['file']}.antt"
+
+
+def workers_of(root, paths):
+    """The files of specs/ that are Workers.antt, or use such a file, themselves or through others."""
+    uses = {path: set(map(specification_of, SPECIFICATION.finditer(proof_code(read(root / path))))) for path in paths}
+    workers = {path for path in paths if path.endswith(f"/specs/{WORKERS}")}
+    while True:
+        more = {path for path, used in uses.items() if "/specs/" in path and used & workers} - workers
+        if not more:
+            return workers
+        workers |= more
+
+
+def check_workers(root, functions, workers, findings):
+    """No contract of a public function cites a definition of such a file."""
+    for name, path, function in functions:
+        code = rattle_code(read(root / path))
+        cited = set(words_of(" ".join(ensures_of(code, function)))) - function.parameters
+        for match in GHOST_USE.finditer(code):
+            used = SPECIFICATION.match(match["module"])
+            if not used or specification_of(used) not in workers:
+                continue
+            for word in names_of(match["names"]):
+                if cited.issuperset(filter(None, word.split("_"))):
+                    wrong = f"{name} cites {word} of {specification_of(used)}, which is or uses {WORKERS}"
+                    findings.add(path, function.line, wrong)
+
+
+def check_uses(root, libraries, files, workers, findings):
+    """Where the code uses such a file it lists the names."""
+    for path in files:
+        if path.partition("/src/")[0] in libraries and path.endswith(".rt"):
+            code = rattle_code(read(root / path))
+            listed = {match.start("module") for match in GHOST_USE.finditer(code)}
+            for match in SPECIFICATION.finditer(code):
+                if specification_of(match) in workers and match.start() not in listed:
+                    findings.add(path, line_at(code, match.start()), f"{match.group()} is used without a list of names")
 
 
 def main(arguments):
@@ -116,7 +183,12 @@ def main(arguments):
     check_places(root, crates, files, findings)
     check_contracts(functions, exceptions, findings)
     check_exceptions(functions, exceptions, findings)
-    check_assumptions(root, crates, files, findings)
+    proofs = list(proof_files(crates, files))
+    check_assumptions(root, proofs, findings)
+    check_positions(root, proofs, findings)
+    workers = workers_of(root, proofs)
+    check_workers(root, functions, workers, findings)
+    check_uses(root, libraries, files, workers, findings)
     return report(f"surface: {len(libraries)} libraries, {len(functions)} public functions", findings)
 
 

@@ -8,7 +8,9 @@ Where the vectors are from:
 - SHA3-256, the first five: NIST's example values for FIPS 202 (the messages of 0, 24, 448 and 896 bits of the Secure Hash
   Standard's examples, and the 1600-bit one of 200 bytes 0xa3). Their digests are written out below as published.
   NIST's messages of 5, 30, 1605 and 1630 bits are not whole bytes.
-- BLAKE2b-256, the first two: RFC 7693 publishes "abc" for BLAKE2b-512 only, so these are what `b2sum -l 256` prints.
+- BLAKE2b-256, the first: the self-test of RFC 7693's Appendix E, a hash of 32 bytes without a key over the digests that the
+  appendix lists, 1,968 bytes; its result is written out below as published. The message is made by the appendix's recipe, with
+  hashlib's hashes. The RFC publishes "abc" for BLAKE2b-512 only, so the next two are what `b2sum -l 256` prints.
 - all others: Python's hashlib (OpenSSL's SHA-3, and the BLAKE2 authors' reference code), which shares nothing with ours.
 
 A file is: the number of the function (1 byte) and `vectors` (7 bytes), the count of vectors (8 bytes), and the vectors. A
@@ -36,7 +38,12 @@ SHA3_PUBLISHED = [
     (b"\xa3" * 200, "79f38adec5c20307a98ef76e8324afbfd46cfd81b22e3973c65fa1bd9de31787"),
 ]
 
-BLAKE2B_PUBLISHED = [
+# RFC 7693, Appendix E: the result of `blake2b_selftest`, and the lengths of its digests and of its inputs.
+SELF_TEST = "c23a7800d98123bd10f506c61e29da5603d763b8bbad2e737f5e765a7bccd475"
+SELF_TEST_DIGESTS = [20, 32, 48, 64]
+SELF_TEST_INPUTS = [0, 3, 128, 129, 255, 1024]
+
+BLAKE2B_PRINTED = [
     (b"", "0e5751c026e543b2e8ab2eb06099daa1d1e5df47778f7787faab45cdf12fe3a8"),
     (b"abc", "bddd813c634239723171ef3fee98579b94964e3bb1cb3e427262c8c068d52319"),
 ]
@@ -62,6 +69,27 @@ def ruled(length):
     return bytes((i * 131 + length * 29) % 251 for i in range(length))
 
 
+def selftest_seq(length):
+    """The appendix's deterministic sequence, whose seed is its length wherever the self-test calls for one."""
+    a, b = 0xDEAD4BAD * length % 2**32, 1
+    sequence = bytearray()
+    for _ in range(length):
+        a, b = b, (a + b) % 2**32
+        sequence.append(b >> 24)
+    return bytes(sequence)
+
+
+def self_test_message():
+    """What the self-test hashes last: of each length of a digest and of an input the digest without a key, then that with a key."""
+    digests = []
+    for size in SELF_TEST_DIGESTS:
+        for length in SELF_TEST_INPUTS:
+            message = selftest_seq(length)
+            digests.append(hashlib.blake2b(message, digest_size=size).digest())
+            digests.append(hashlib.blake2b(message, digest_size=size, key=selftest_seq(size)).digest())
+    return b"".join(digests)
+
+
 def number(n):
     return n.to_bytes(8, "little")
 
@@ -74,7 +102,7 @@ def made(length, digest):
     return b"\1" + number(length) + digest
 
 
-def published(vectors, function):
+def written_out(vectors, function):
     for message, digest in vectors:
         assert function(message).hex() == digest, message
         yield given(message, bytes.fromhex(digest))
@@ -97,9 +125,10 @@ def file_of(function, vectors):
 
 
 def files():
+    blake2b_first = [(self_test_message(), SELF_TEST), *BLAKE2B_PRINTED]
     return {
-        "sha3_256.vectors": file_of(1, [*published(SHA3_PUBLISHED, sha3_256), *by_rule(sha3_256)]),
-        "blake2b_256.vectors": file_of(2, [*published(BLAKE2B_PUBLISHED, blake2b_256), *by_rule(blake2b_256)]),
+        "sha3_256.vectors": file_of(1, [*written_out(SHA3_PUBLISHED, sha3_256), *by_rule(sha3_256)]),
+        "blake2b_256.vectors": file_of(2, [*written_out(blake2b_first, blake2b_256), *by_rule(blake2b_256)]),
         "value_nonce.vectors": file_of(3, [given(m, blake2b_256(m)) for m in values_and_nonces()]),
     }
 

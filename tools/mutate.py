@@ -28,7 +28,17 @@ from typing import NamedTuple
 from repository import HOME, bodies_of, functions_of, line_at, rattle_code
 
 COMPARISONS = {"<": ["<="], "<=": ["<"], ">": [">="], ">=": [">"], "==": ["!="], "!=": ["=="]}
-OPERATORS = {"+": ["-"], "-": ["+"], "*": ["/"], "/": ["*"], "%": ["/"], "+=": ["-="], "-=": ["+="], "&&": ["||"], "||": ["&&"]}
+OPERATORS = {
+    "+": ["-"],
+    "-": ["+"],
+    "*": ["/"],
+    "/": ["*"],
+    "%": ["/"],
+    "+=": ["-="],
+    "-=": ["+="],
+    "&&": ["||"],
+    "||": ["&&"],
+}
 BITS = {"&": ["|"], "|": ["&"], "^": ["|"], "<<": [">>"], ">>": ["<<"]}
 WORDS = {"true": ["false"], "false": ["true"]}
 
@@ -41,7 +51,10 @@ BYTES = re.compile(r"\bb'[^\\']'|\bb\"[^\\\"]+\"")
 ANSWER = re.compile(r"\b(?P<enum>[A-Z]\w*)::(?P<variant>[A-Z][a-z]\w*)\b(?P<payload>\(|\s*\{)?")
 ENUM = re.compile(r"\benum\s+(?P<name>\w+)\s*\{")
 VARIANT = re.compile(r"\s*(?P<name>[A-Z]\w*)\s*(?P<payload>\([^()]*\)|\{[^{}]*\})?\s*,?")
-CONSTANT = re.compile(r"^ *(?:pub(?:\([a-z]+\))?\s+)?const\s+(?P<name>\w+)\s*:[^=;]*(?:;[^=;]*)?=(?P<value>[^;]*(?:;\s*\d+\][^;]*)*);", re.MULTILINE)
+CONSTANT = re.compile(
+    r"^ *(?:pub(?:\([a-z]+\))?\s+)?const\s+(?P<name>\w+)\s*:[^=;]*(?:;[^=;]*)?=(?P<value>[^;]*(?:;\s*\d+\][^;]*)*);",
+    re.MULTILINE,
+)
 SAID = re.compile(r"^fn (?P<name>[\w:]+): (?P<verdict>proved|not proved|no proof|could not tell)", re.MULTILINE)
 
 LIMIT_SECONDS = 600
@@ -176,7 +189,11 @@ def rounds_of(mutants, reach):
         chosen = []
         for full in sorted(waiting, key=lambda key: -len(waiting[key])):
             alone = full.startswith("constant ")
-            apart = all(full not in reach[other] and other not in reach[full] for other in chosen) if chosen and not alone else not chosen
+            apart = (
+                all(full not in reach[other] and other not in reach[full] for other in chosen)
+                if chosen and not alone
+                else not chosen
+            )
             if apart:
                 chosen.append(full)
             if alone and chosen == [full]:
@@ -275,7 +292,9 @@ def judged(prover, mutants):
         half = len(mutants) // 2
         return judged(prover, mutants[:half]) + judged(prover, mutants[half:])
     if len(mutants) > 1:
-        return [prover.judge([mutant])[0] if verdict == "ACCEPTED" else verdict for mutant, verdict in zip(mutants, said)]
+        return [
+            prover.judge([mutant])[0] if verdict == "ACCEPTED" else verdict for mutant, verdict in zip(mutants, said)
+        ]
     return said
 
 
@@ -306,7 +325,11 @@ def spread(mutants, most):
 
 def chosen_of(root, crate, functions):
     """The numbered mutants of a crate, or of those functions and constants of it."""
-    return [(number, mutant) for number, mutant in enumerate(mutants_of(root, crate)) if not functions or mutant.function in functions]
+    return [
+        (number, mutant)
+        for number, mutant in enumerate(mutants_of(root, crate))
+        if not functions or mutant.function in functions
+    ]
 
 
 def run(root, crate, functions, most):

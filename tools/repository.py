@@ -4,6 +4,7 @@ import os
 import re
 import shutil
 import subprocess
+from collections import Counter
 from pathlib import Path
 from typing import FrozenSet, NamedTuple, Optional, Tuple
 
@@ -22,6 +23,10 @@ BRACE = re.compile(r"[{}]")
 CLAUSES = ("requires", "ensures", "ghost")
 PARAMETER = re.compile(r"(\w+)\s*:(?!:)")
 ENSURES = re.compile(r"\bensures\s*\{")
+
+GHOST_USE = re.compile(r"\bghost use (?P<module>[^\s;{]*)\.\{(?P<names>[^}]*)\};")
+FIELD = re.compile(r"\s\.\s*[^\s(){}.;,]+")
+TOKEN = re.compile(rf"[^{SEPARATORS}⌜⌝]+")
 
 BACKTICKED = re.compile(r"`([^`]+)`")
 
@@ -163,7 +168,9 @@ def functions_of(code):
         header = header_from(code, match.end())
         signature = code[match.end() : header[1]] if header else ""
         parameters = frozenset(PARAMETER.findall(re.split(r"->|\b(?:requires|ensures|ghost)\b", signature)[0]))
-        functions.append(Function(match["name"], modules, owner, line, bool(match["public"]), header and header[0], parameters))
+        functions.append(
+            Function(match["name"], modules, owner, line, bool(match["public"]), header and header[0], parameters)
+        )
     return functions
 
 
@@ -176,6 +183,16 @@ def ensures_of(text, function):
     for match in ENSURES.finditer(code, start.end(), header[1] if header else start.end()):
         held.append(text[match.end() : closing_brace(code, match.end() - 1)])
     return held
+
+
+def words_of(text):
+    """How often each name and number stands in a text of antt, fields apart."""
+    return Counter(TOKEN.findall(FIELD.sub(" ", text)))
+
+
+def names_of(listed):
+    """The names between the braces of a use."""
+    return re.findall(r"[^\s,]+", listed)
 
 
 def only_section(text, heading):

@@ -49,7 +49,9 @@ def main(arguments):
     if not written:
         sys.exit(f"there is nothing in target/inc/{chosen.crate}: run `rt dev {chosen.crate}`")
     owners, parts = seconds_of(written)
-    print(f"{sum(owners.values()):.1f} s: " + ", ".join(f"{part} {seconds:.1f}" for part, seconds in parts.most_common(5)))
+    print(
+        f"{sum(owners.values()):.1f} s: " + ", ".join(f"{part} {seconds:.1f}" for part, seconds in parts.most_common(5))
+    )
     for owner, seconds in owners.most_common(chosen.most):
         print(f"{seconds:7.2f} {owner}")
     return 0

@@ -5,7 +5,7 @@ use crate::covenants::{encoded, register};
 use crate::task::{Heading, Label, Task};
 use crate::timing::Side;
 use crate::{blake2b_256, links, sha3_256, sheets};
-use hns_covenants::{Covenant, CovenantError, MAX_COVENANT_ENCODED_SIZE};
+use hns_covenants::{Covenant, CovenantError};
 use hns_encoding::Decoder;
 use std::hint::black_box;
 use turgamysk::entries;
@@ -32,7 +32,7 @@ fn decode_run(bytes: &[u8]) -> Result<usize, CovenantError> {
 }
 
 fn read_run(bytes: &[u8]) -> entries::RunAnswer {
-    entries::covenant_read_run(bytes, MAX_COVENANT_ENCODED_SIZE)
+    entries::covenant_read_run(bytes)
 }
 
 /// Both sides read as many covenants, and refuse each beginning of a run that ends within one; both accept the sheets.

@@ -67,7 +67,7 @@ fn pair(index: usize, resource: usize, random: &mut Random) -> Pair {
     let mut outpoint = [0; 36];
     random.fill(&mut outpoint);
     let (value, hash) = (5_000_000 + index as u64, &random.bytes32()[..20]);
-    let transition = if index % 2 == 0 {
+    let transition = if index.is_multiple_of(2) {
         bid_to_reveal(value, random)
     } else {
         register_to_update(resource, random)

@@ -1,40 +1,12 @@
 """The name report on files of every class and refusal that a record can reach. 2 cannot be reached: no length in a record is near 2^64."""
 
-import hashlib
 import unittest
 
-from programs import ProgramCase, compact
+from formats import EXPIRED, NULL_INDEX, OWNER, REGISTERED, WEAK, compact, key_of, little, owner, record
+from programs import FOLDER, ProgramCase
 
 ANY_KEY = bytes(range(32))
-NULL_OUTPOINT = bytes(32) + compact(2**32 - 1)
-OWNER = b"\xab" * 32 + compact(7)
-
-# the bits of the bitmap, and the field that each shows
-FIELDS = ["owner", "value", "highest", "transfer", "revoked", "claimed", "renewals"]
-REGISTERED, EXPIRED, WEAK = 1 << 7, 1 << 8, 1 << 9
-
-
-def key_of(name):
-    return hashlib.sha3_256(name).digest()
-
-
-def u32(value):
-    return value.to_bytes(4, "little")
-
-
-def record(name=b"", resource=b"", height=0, renewal=0, flags=0, **present):
-    """A record. A present field is given by its bytes, in whatever form; its bit is set, and `flags` are the other bits."""
-    bits = flags | sum(1 << FIELDS.index(field) for field in present)
-    return (
-        len(name).to_bytes(1, "little")
-        + name
-        + len(resource).to_bytes(2, "little")
-        + resource
-        + u32(height)
-        + u32(renewal)
-        + bits.to_bytes(2, "little")
-        + b"".join(present[field] for field in FIELDS if field in present)
-    )
+NULL_OWNER = owner(bytes(32), NULL_INDEX)
 
 
 class NameReport(ProgramCase):
@@ -66,8 +38,8 @@ class NameReport(ProgramCase):
         self.assert_named("state free name=5 bytes=21", resource=b"abc")
         self.assert_named("state free name=5 bytes=19", value=compact(1))
         self.assert_named("state free name=5 bytes=27", highest=compact(2**53 - 1))
-        self.assert_named("state free name=5 bytes=22", transfer=u32(1))
-        self.assert_named("state free name=5 bytes=26", revoked=u32(1), claimed=u32(2**32 - 1))
+        self.assert_named("state free name=5 bytes=22", transfer=little(1, 4))
+        self.assert_named("state free name=5 bytes=26", revoked=little(1, 4), claimed=little(2**32 - 1, 4))
         self.assert_named("state free name=5 bytes=23", renewals=compact(2**32 - 1))
 
     def test_held(self):
@@ -76,9 +48,9 @@ class NameReport(ProgramCase):
         self.assert_says("state held name=1 bytes=47", key_of(b"a"), record(name=b"a", owner=OWNER))
 
     def test_an_owner_is_null_only_by_hash_and_index(self):
-        self.assert_named("state held name=5 bytes=55", owner=b"\x01" + bytes(31) + compact(2**32 - 1))
-        self.assert_named("state held name=5 bytes=51", owner=bytes(32) + compact(0))
-        self.assert_named("state held name=5 bytes=55", owner=bytes(32) + compact(2**32 - 2))
+        self.assert_named("state held name=5 bytes=55", owner=owner(b"\x01" + bytes(31), 2**32 - 1))
+        self.assert_named("state held name=5 bytes=51", owner=owner(bytes(32), 0))
+        self.assert_named("state held name=5 bytes=55", owner=owner(bytes(32), 2**32 - 2))
 
     def test_bits_7_to_9_have_no_bytes(self):
         for flags in (REGISTERED, EXPIRED, WEAK, REGISTERED | EXPIRED | WEAK):
@@ -95,12 +67,12 @@ class NameReport(ProgramCase):
             height=2**32 - 1,
             renewal=2**32 - 1,
             flags=REGISTERED | EXPIRED | WEAK,
-            owner=b"\xff" * 32 + compact(2**32 - 1),
+            owner=owner(b"\xff" * 32, 2**32 - 1),
             value=compact(2**53 - 1),
             highest=compact(2**53 - 1),
-            transfer=u32(2**32 - 1),
-            revoked=u32(2**32 - 1),
-            claimed=u32(2**32 - 1),
+            transfer=little(2**32 - 1, 4),
+            revoked=little(2**32 - 1, 4),
+            claimed=little(2**32 - 1, 4),
             renewals=compact(2**32 - 1),
         )
         self.assert_says("state held name=63 bytes=660", key_of(name), longest)
@@ -112,8 +84,20 @@ class NameReport(ProgramCase):
         self.assert_line("refused 1", {"state.bin": b""})
         self.assert_line("refused 1", {"state.bin": bytes(31)})
 
+    def test_1_a_file_that_cannot_be_read_to_its_end(self):
+        self.assert_line("refused 1", {"state.bin": FOLDER})
+        self.assert_line_on_failing_reads("refused 1", {"state.bin": bytes(45)})
+
     def test_1_cut_off(self):
-        whole = record(name=b"alice", resource=b"abc", height=1, owner=OWNER, value=compact(2**40), transfer=u32(3), renewals=compact(300))
+        whole = record(
+            name=b"alice",
+            resource=b"abc",
+            height=1,
+            owner=OWNER,
+            value=compact(2**40),
+            transfer=little(3, 4),
+            renewals=compact(300),
+        )
         self.assert_says("state held name=5 bytes=70", key_of(b"alice"), whole)
         for size in range(len(whole)):
             with self.subTest(size=size):
@@ -143,7 +127,21 @@ class NameReport(ProgramCase):
     def test_6_no_name(self):
         self.assert_says("refused 6", key_of(b""), record(height=1))
         self.assert_says("refused 6", key_of(b""), record(flags=REGISTERED))
-        for name in (b"example", b"invalid", b"local", b"localhost", b"test", b"Alice", b"-a", b"a-", b"_a", b"a_", b"a.b", b"a b", b"\x80"):
+        for name in (
+            b"example",
+            b"invalid",
+            b"local",
+            b"localhost",
+            b"test",
+            b"Alice",
+            b"-a",
+            b"a-",
+            b"_a",
+            b"a_",
+            b"a.b",
+            b"a b",
+            b"\x80",
+        ):
             with self.subTest(name=name):
                 self.assert_says("refused 6", key_of(name), record(name=name, renewal=1))
 
@@ -161,7 +159,7 @@ class NameReport(ProgramCase):
         self.assert_says("refused 7", ANY_KEY, record(flags=1 << 15))
 
     def test_7_owner_index(self):
-        self.assert_named("refused 7", owner=b"\xab" * 32 + compact(2**32))
+        self.assert_named("refused 7", owner=owner(b"\xab" * 32, 2**32))
 
     def test_7_renewal_count(self):
         self.assert_named("refused 7", renewals=compact(2**32))
@@ -173,14 +171,21 @@ class NameReport(ProgramCase):
 
     def test_8_a_present_bit_with_a_zero_value(self):
         self.assert_says("refused 8", ANY_KEY, bytes(11) + bytes.fromhex("020000"))
-        for field, zero in (("value", compact(0)), ("highest", compact(0)), ("transfer", u32(0)), ("revoked", u32(0)), ("claimed", u32(0)), ("renewals", compact(0))):
+        for field, zero in (
+            ("value", compact(0)),
+            ("highest", compact(0)),
+            ("transfer", little(0, 4)),
+            ("revoked", little(0, 4)),
+            ("claimed", little(0, 4)),
+            ("renewals", compact(0)),
+        ):
             with self.subTest(field=field):
                 self.assert_named("refused 8", **{field: zero})
                 self.assert_says("refused 8", ANY_KEY, record(**{field: zero}))
 
     def test_8_an_owner_bit_with_the_null_outpoint(self):
-        self.assert_named("refused 8", owner=NULL_OUTPOINT)
-        self.assert_says("refused 8", ANY_KEY, record(owner=NULL_OUTPOINT))
+        self.assert_named("refused 8", owner=NULL_OWNER)
+        self.assert_says("refused 8", ANY_KEY, record(owner=NULL_OWNER))
 
     def test_9_another_key(self):
         self.assert_says("refused 9", ANY_KEY, record(name=b"alice", height=1))

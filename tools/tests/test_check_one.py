@@ -105,7 +105,11 @@ class CheckOne(TreeCase):
 
     def test_contract_without_a_clause(self):
         self.assert_finds(
-            {"crates/lib/src/lib.rt": LIBRARY.replace("    ensures { λ _. ⌜ now (d .exit) ≡ kept (now (d .entry)) ⌝ }\n", "")},
+            {
+                "crates/lib/src/lib.rt": LIBRARY.replace(
+                    "    ensures { λ _. ⌜ now (d .exit) ≡ kept (now (d .entry)) ⌝ }\n", ""
+                )
+            },
             "crates/lib/src/lib.rt:4: lib::plain_name and plain-name-one: the contract lacks kept",
             "crates/lib/src/lib.rt:4: lib::plain_name and plain-name-one: 1 equations in the contract, 6 in the theorem",
         )

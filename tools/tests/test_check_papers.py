@@ -95,7 +95,9 @@ SUMMARY = "papers: 8 papers, 17 references, 2 must-fail edits, 4 refusals"
 class CheckPapers(TreeCase):
     script = "check_papers.py"
     good = {
-        "README.md": "A reader of a{0}b, of ..{1}b and of ${{X}}{2}b.\n".format(*("/" + folder + "/" for folder in ("tmp", "opt", "home"))),
+        "README.md": "A reader of a{0}b, of ..{1}b and of ${{X}}{2}b.\n".format(
+            *("/" + folder + "/" for folder in ("tmp", "opt", "home"))
+        ),
         "NOTICE": "It quotes " + "/" + "home/someone.\n",
         "docs/CLAIMS.md": CLAIMS,
         "docs/DECISIONS.md": "Decisions\n",

@@ -130,6 +130,22 @@ no-axiom = "axiom ?"
 
 BAD_FUNCTION = "pub fn bare(x: u8) -> u8 {\n    x\n}\n"
 ASKING_FUNCTION = "pub fn ask(x: u8)\n    requires { ⌜ x < 9 ⌝ }\n    ensures { λ _. ⌜ x ≡ x ⌝ }\n{\n}\n"
+CITING = """\
+ghost use mathlib.Core.Path.{_≡_};
+ghost use Rattle.reader.specs.%s.{%s};
+
+pub fn cited(turned: u8) -> u8
+    ensures { λ r. ⌜ first r ≡ steps (turned at r .filled) ⌝ } // behind
+{
+    x
+}
+
+fn private(x: u8) -> u8
+    ensures { λ r. ⌜ steps r ≡ inner x ⌝ }
+{
+    x
+}
+"""
 UNPLACED = "not below src/, specs/ or proofs/ of a listed crate"
 
 
@@ -170,7 +186,8 @@ class CheckSurface(TreeCase):
     def test_source_beside_the_folders_of_a_crate(self):
         self.assert_finds({"crates/reader/Loose.antt": ""}, f"crates/reader/Loose.antt:1: {UNPLACED}")
         self.assert_finds(
-            {"crates/reader/Loose.antt": None, "crates/reader/old/lib.rt": ""}, f"crates/reader/old/lib.rt:1: {UNPLACED}"
+            {"crates/reader/Loose.antt": None, "crates/reader/old/lib.rt": ""},
+            f"crates/reader/old/lib.rt:1: {UNPLACED}",
         )
 
     def test_folder_not_listed(self):
@@ -181,15 +198,15 @@ class CheckSurface(TreeCase):
         )
 
     def test_folder_missing(self):
-        self.assert_finds(
-            {"crates.txt": "reader:\nteller:\n\nlost:\n"}, "crates.txt:4: lost has no folder in crates/"
-        )
+        self.assert_finds({"crates.txt": "reader:\nteller:\n\nlost:\n"}, "crates.txt:4: lost has no folder in crates/")
 
     def test_function_without_ensures(self):
         self.assert_finds_in_library("\n" + BAD_FUNCTION, "2: reader::more::bare has no ensures")
 
     def test_method_without_ensures(self):
-        self.assert_finds_in_library(f"impl Place {{\n{BAD_FUNCTION}}}\n", "2: reader::more::Place::bare has no ensures")
+        self.assert_finds_in_library(
+            f"impl Place {{\n{BAD_FUNCTION}}}\n", "2: reader::more::Place::bare has no ensures"
+        )
 
     def test_exported_function_without_ensures(self):
         self.assert_finds_in_library(
@@ -270,6 +287,84 @@ class CheckSurface(TreeCase):
         ):
             with self.subTest(text):
                 self.assert_finds({path: f"-- a proof\n{text}\n"}, f"{path}:2: assumed or left open: {token}")
+
+    def test_positions_of_the_code(self):
+        for text, position in (
+            ("-- src/lib.rt:12:5", "src/lib.rt:12:5"),
+            ("    -- src/deeper/part.rt:3", "src/deeper/part.rt:3"),
+            ("spec = search needs -- at crates/reader/src/lib.rt:7:1", "crates/reader/src/lib.rt:7:1"),
+        ):
+            for path in ("crates/reader/proofs/plain/Proof.antt", "crates/reader/specs/First.antt"):
+                with self.subTest(text=text, path=path):
+                    self.assert_finds({path: f"\n{text}\n"}, f"{path}:2: a position of the code: {position}")
+                self.run_check({})
+
+    def test_a_file_of_the_code_is_no_position(self):
+        self.assert_passes(
+            {"crates/reader/proofs/plain/Proof.antt": "-- as in src/lib.rt: 1, and src/inner.rt, too\n"},
+            "surface: 1 libraries, 9 public functions, 0 findings",
+        )
+
+    def assert_cites(self, changes, *findings):
+        """A further file of the library, and others, have these findings, each given by its line and what is wrong."""
+        path = "crates/reader/src/more.rt"
+        self.assert_finds(changes, *(f"{path}:{finding}, which is or uses Workers.antt" for finding in findings))
+
+    def test_contract_that_cites_workers(self):
+        self.assert_cites(
+            {
+                "crates/reader/specs/Workers.antt": "pub steps : ℕ → ℕ\n",
+                "crates/reader/src/more.rt": CITING % ("Workers", "steps, inner"),
+            },
+            "4: reader::more::cited cites steps of crates/reader/specs/Workers.antt",
+        )
+
+    def test_contract_that_cites_workers_of_another_crate(self):
+        text = CITING.replace("Rattle.reader.specs.", "Rattle.teller.") % ("Workers", "\n    inner,\n    steps,\n")
+        self.assert_cites(
+            {"crates/teller/specs/Workers.antt": "pub steps : ℕ → ℕ\n", "crates/reader/src/more.rt": text},
+            "7: reader::more::cited cites steps of crates/teller/specs/Workers.antt",
+        )
+
+    def test_contract_that_cites_an_operator_of_workers(self):
+        self.assert_cites(
+            {
+                "crates/reader/specs/Workers.antt": "pub _at_ : ℕ → ℕ → ℕ\n",
+                "crates/reader/src/more.rt": CITING % ("Workers", "_at_, _at_of_"),
+            },
+            "4: reader::more::cited cites _at_ of crates/reader/specs/Workers.antt",
+        )
+
+    def test_contract_that_leans_on_workers(self):
+        self.assert_cites(
+            {
+                "crates/teller/specs/Workers.antt": "pub inner : ℕ → ℕ\n",
+                "crates/reader/specs/Middle.antt": "use Rattle.teller.specs.Workers.{inner}\n",
+                "crates/reader/specs/Outer.antt": "use Rattle.reader.specs.Middle as middle\n",
+                "crates/reader/src/more.rt": CITING % ("Outer", "steps"),
+            },
+            "4: reader::more::cited cites steps of crates/reader/specs/Outer.antt",
+        )
+
+    def test_workers_of_private_functions(self):
+        self.assert_passes(
+            {
+                "crates/reader/specs/Workers.antt": "use Rattle.reader.specs.First.{first}\n",
+                "crates/reader/proofs/One.antt": "use Rattle.reader.specs.Workers.{inner}\n",
+                "crates/reader/src/more.rt": CITING % ("Workers", "inner, turned, filled, behind"),
+                "crates/reader/src/less.rt": CITING % ("First", "first, steps"),
+            },
+            "surface: 1 libraries, 11 public functions, 0 findings",
+        )
+
+    def test_workers_without_a_list_of_names(self):
+        path = "crates/reader/src/more.rt"
+        for form in ("Workers as workers", "Workers", "Workers.steps"):
+            with self.subTest(form):
+                self.assert_finds(
+                    {"crates/reader/specs/Workers.antt": "", path: f"ghost use Rattle.reader.specs.{form};\n"},
+                    f"{path}:1: Rattle.reader.specs.Workers is used without a list of names",
+                )
 
     @unittest.skipUnless(shutil.which("git"), "git is not here")
     def test_checkout(self):

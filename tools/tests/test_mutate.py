@@ -63,11 +63,22 @@ class Changes(Tree):
         return sorted((m.line, m.old, m.new) for m in self.mutants if m.full == full)
 
     def test_comparison_operator_constants_and_answer(self):
-        expected = [(13, "<", "<="), (13, "10", "11"), (13, "10", "9"), (14, "Yes", "Maybe"), (14, "+", "-"), (14, "2", "1"), (14, "2", "3")]
+        expected = [
+            (13, "<", "<="),
+            (13, "10", "11"),
+            (13, "10", "9"),
+            (14, "Yes", "Maybe"),
+            (14, "+", "-"),
+            (14, "2", "1"),
+            (14, "2", "3"),
+        ]
         self.assertEqual(sorted(expected), self.changes(JUDGE))
 
     def test_negation_bytes_and_hexadecimal(self):
-        self.assertEqual([(24, "!", ""), (24, "&&", "||"), (24, "==", "!="), (24, 'b"ab"', 'b"ac"'), (24, "b'-'", "b'.'")], self.changes(IS_MARK))
+        self.assertEqual(
+            [(24, "!", ""), (24, "&&", "||"), (24, "==", "!="), (24, 'b"ab"', 'b"ac"'), (24, "b'-'", "b'.'")],
+            self.changes(IS_MARK),
+        )
         self.assertEqual([(29, "!=", "=="), (29, "0x10", "0x11"), (29, "0x10", "0xf")], self.changes(NAMED))
 
     def test_a_constant_outside_the_functions(self):
@@ -80,7 +91,9 @@ class Changes(Tree):
 class Rounds(Tree):
     def rounds(self):
         chosen = list(enumerate(self.mutants))
-        return [[mutant for _, mutant in group] for group in mutate.rounds_of(chosen, mutate.reach_of(self.root, "one"))]
+        return [
+            [mutant for _, mutant in group] for group in mutate.rounds_of(chosen, mutate.reach_of(self.root, "one"))
+        ]
 
     def test_every_mutant_once(self):
         self.assertEqual(sorted(self.mutants), sorted(mutant for group in self.rounds() for mutant in group))
@@ -159,7 +172,9 @@ class Judging(Tree):
 
     def test_halves_where_nothing_is_told(self):
         both = [self.first(JUDGE), self.first(IS_MARK)]
-        prover = self.prover([("error: mismatched types", 1), ("error: mismatched types", 1), (f"fn {IS_MARK}: not proved\n", 1)])
+        prover = self.prover(
+            [("error: mismatched types", 1), ("error: mismatched types", 1), (f"fn {IS_MARK}: not proved\n", 1)]
+        )
         self.assertEqual(["no program", "refused"], mutate.judged(prover, both))
 
 

@@ -11,11 +11,15 @@ import times
 
 class Owners(unittest.TestCase):
     def test_a_part_of_a_function(self):
-        self.assertEqual(("store.put_le", "Lts"), times.owner_of("Rattle.words.proofs.store.put_le.Lts.decls.oantt"))
+        self.assertEqual(
+            ("store.put_le", "Lts"), times.owner_of("Rattle.words.proofs.store.put_le.Lts.decls.oantt")
+        )
         self.assertEqual(("put_le", "Proof"), times.owner_of("Rattle.words.proofs.put_le.Proof.oantt"))
 
     def test_a_function_of_a_type(self):
-        self.assertEqual(("Covenant.read", "Tie"), times.owner_of("Rattle.covenants.proofs.Covenant.read.Tie.oantt"))
+        self.assertEqual(
+            ("Covenant.read", "Tie"), times.owner_of("Rattle.covenants.proofs.Covenant.read.Tie.oantt")
+        )
 
     def test_a_file_of_laws(self):
         self.assertEqual(("Over", ""), times.owner_of("Rattle.words.proofs.Over.decls.oantt"))

@@ -45,7 +45,7 @@ pub use name_state::{Class, NameState};
 pub use names::{blind_bid, hash_name, validate_name};
 pub use primitives::{ArithmeticError, Dollarydoos, Height, NameHash, Outpoint, TransactionHash};
 pub use refusal::{Refusal, Stop};
-pub use run::{Run, RunEnd, read_run};
+pub use run::{Run, RunEnd, import_archive, read_run, read_run_with_limit};
 pub use sheets::{
     Place, SheetStop, TransactionCounts, input_at, item, judge_coins, judge_transaction, place_at,
 };

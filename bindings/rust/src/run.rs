@@ -1,7 +1,7 @@
 //! Covenants back to back.
 
-use crate::covenant::{Covenant, CovenantKind, ReadCovenant};
-use crate::entries;
+use crate::covenant::{CovenantKind, ReadCovenant};
+use crate::entries::{self, RunAnswer, StepAnswer};
 use crate::refusal::Stop;
 
 /// How a run ended, and how many covenants it had before that.
@@ -11,6 +11,15 @@ pub struct RunEnd {
     pub count: usize,
     /// What stopped the run; none where its bytes ended between two covenants.
     pub stop: Option<Stop>,
+}
+
+impl From<RunAnswer> for RunEnd {
+    fn from(answer: RunAnswer) -> Self {
+        Self {
+            count: answer.covenants,
+            stop: answer.verdict.at(answer.position).err(),
+        }
+    }
 }
 
 /// Hands out back-to-back covenants, each under the same allowance, until no bytes are left or one is refused.
@@ -25,12 +34,12 @@ pub struct RunEnd {
 /// assert_eq!(stop.refusal, Refusal::UnexpectedEnd { offset: 5, needed: 1 });
 /// assert!(run.next().is_none());
 ///
-/// assert_eq!(read_run(&[0, 0, 3, 0], 1_000_009).count, 2);
+/// assert_eq!(read_run(&[0, 0, 3, 0]).count, 2);
 /// ```
 #[derive(Clone, Debug)]
 pub struct Run<'input> {
     bytes: &'input [u8],
-    limit: usize,
+    limit: Option<usize>,
     position: usize,
     count: usize,
     is_over: bool,
@@ -39,17 +48,29 @@ pub struct Run<'input> {
 impl<'input> Run<'input> {
     /// A run with the allowance of 1,000,009 for each covenant.
     pub const fn new(bytes: &'input [u8]) -> Self {
-        Self::with_limit(bytes, Covenant::MAX_ENCODED_SIZE)
+        Self {
+            bytes,
+            limit: None,
+            position: 0,
+            count: 0,
+            is_over: false,
+        }
     }
 
     /// A run with another allowance for each covenant.
     pub const fn with_limit(bytes: &'input [u8], limit: usize) -> Self {
         Self {
-            bytes,
-            limit,
-            position: 0,
-            count: 0,
-            is_over: false,
+            limit: Some(limit),
+            ..Self::new(bytes)
+        }
+    }
+
+    fn step(&self) -> StepAnswer {
+        match self.limit {
+            None => entries::covenant_run_next(self.bytes, self.position, self.count),
+            Some(limit) => {
+                entries::covenant_run_next_with_limit(self.bytes, limit, self.position, self.count)
+            }
         }
     }
 
@@ -66,7 +87,7 @@ impl Iterator for Run<'_> {
         if self.is_over {
             return None;
         }
-        let step = entries::covenant_run_next(self.bytes, self.limit, self.position, self.count);
+        let step = self.step();
         self.is_over = step.ended || step.verdict.number != 0;
         self.position = step.position;
         self.count = step.covenants;
@@ -81,11 +102,17 @@ impl Iterator for Run<'_> {
     }
 }
 
-/// Reads a whole run to its end.
-pub fn read_run(bytes: &[u8], limit: usize) -> RunEnd {
-    let answer = entries::covenant_read_run(bytes, limit);
-    RunEnd {
-        count: answer.covenants,
-        stop: answer.verdict.at(answer.position).err(),
-    }
+/// Reads a whole run to its end, with the allowance of 1,000,009 for each covenant.
+pub fn read_run(bytes: &[u8]) -> RunEnd {
+    entries::covenant_read_run(bytes).into()
+}
+
+/// Reads a whole run to its end, with another allowance for each covenant.
+pub fn read_run_with_limit(bytes: &[u8], limit: usize) -> RunEnd {
+    entries::covenant_read_run_with_limit(bytes, limit).into()
+}
+
+/// Reads an archive, which is a run of covenants, to its end, with the allowance of 1,000,009 for each covenant.
+pub fn import_archive(bytes: &[u8]) -> RunEnd {
+    entries::covenant_import_archive(bytes).into()
 }

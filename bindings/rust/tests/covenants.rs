@@ -1,7 +1,8 @@
 //! Covenants: every function with short, long, empty and hostile arguments.
 
 use turgamysk::{
-    Covenant, CovenantKind, Decoder, Directory, ReadCovenant, Refusal, Run, RunEnd, Stop, read_run,
+    Covenant, CovenantKind, Decoder, Directory, ReadCovenant, Refusal, Run, RunEnd, Stop,
+    import_archive, read_run, read_run_with_limit,
 };
 
 /// Three items of 1,000,000, 0 and 0 bytes, which fill 1,000,009.
@@ -404,10 +405,9 @@ fn allowances_are_kept() {
 
 #[test]
 fn runs_end_or_stop_with_their_count() {
-    let largest = Covenant::MAX_ENCODED_SIZE;
     let ended = |count| RunEnd { count, stop: None };
-    assert_eq!(read_run(&[], largest), ended(0));
-    assert_eq!(read_run(&[0, 0, 1, 0], largest), ended(2));
+    assert_eq!(read_run(&[]), ended(0));
+    assert_eq!(read_run(&[0, 0, 1, 0]), ended(2));
     let refusal = Refusal::TooLarge {
         actual: 2,
         maximum: 0,
@@ -416,8 +416,49 @@ fn runs_end_or_stop_with_their_count() {
         refusal,
         position: 0,
     });
-    assert_eq!(read_run(&[0, 0], 0), RunEnd { count: 0, stop });
-    assert_eq!(read_run(&vec![0; 100_000], largest), ended(50_000));
+    assert_eq!(read_run_with_limit(&[0, 0], 0), RunEnd { count: 0, stop });
+    assert_eq!(read_run(&vec![0; 100_000]), ended(50_000));
+}
+
+#[test]
+fn a_run_allows_the_largest_covenant_by_default() {
+    let largest = largest();
+    let one = RunEnd {
+        count: 1,
+        stop: None,
+    };
+    assert_eq!((read_run(&largest), import_archive(&largest)), (one, one));
+    assert_eq!(Run::new(&largest).filter(Result::is_ok).count(), 1);
+
+    let mut longer = [0, 0].to_vec();
+    longer.extend(&largest);
+    longer[3] += 1;
+    longer.push(0);
+    let stop = Stop {
+        refusal: Refusal::TooLarge {
+            actual: 1_000_010,
+            maximum: 1_000_009,
+        },
+        position: 1_000_012,
+    };
+    let end = RunEnd {
+        count: 1,
+        stop: Some(stop),
+    };
+    assert_eq!((read_run(&longer), import_archive(&longer)), (end, end));
+    assert_eq!(Run::new(&longer).last(), Some(Err(stop)));
+
+    let below = read_run_with_limit(&largest, 1_000_008);
+    assert_eq!(
+        (below.count, below.stop.map(|stop| stop.refusal)),
+        (
+            0,
+            Some(Refusal::TooLarge {
+                actual: 1_000_009,
+                maximum: 1_000_008
+            })
+        )
+    );
 }
 
 #[test]
@@ -444,7 +485,7 @@ fn a_run_hands_out_what_it_counts() {
         ]
     );
     assert_eq!((run.covenants(), run.next()), (2, None));
-    let end = read_run(&bytes, Covenant::MAX_ENCODED_SIZE);
+    let end = read_run(&bytes);
     assert_eq!(
         (end.count, end.stop.map(|stop| stop.position)),
         (2, Some(7))

@@ -11,7 +11,7 @@ use lib.ListN.{length, getD}
 use Rattle.words.proofs.Table.{both, both-left, both-right}
 use Rattle.words.proofs.Entries.{all-entries}
 use Rattle.blake2b.specs.Blake2b.{ror, iv, sigma, half, lay, G, word, cols, diags, round, row, rounds, flagged, start}
-use Rattle.blake2b.specs.Turns.{Row, column, joined, four, turned, back}
+use Rattle.blake2b.specs.Workers.{Row, column, joined, four, turned, back}
 
 -- four lines of G, with the two sums as they were computed
 pub half-law :

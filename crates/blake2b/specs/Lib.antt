@@ -1,2 +1,2 @@
 pub mod Blake2b
-pub mod Turns
+pub mod Workers

@@ -5,7 +5,7 @@ ghost use Prim.Native.Nat.{ℕ, _+_, _%_, _^_, _≤_, _<_};
 ghost use lib.ListN.{drop, getD};
 ghost use Rattle.words.specs.Words.{bytes, lanes};
 ghost use Rattle.blake2b.specs.Blake2b.{iv, half, word, cols, diags, rounds, flagged, start, folded, F, first, digest, blake2b};
-ghost use Rattle.blake2b.specs.Turns.{Row, column, joined, four, turned, back};
+ghost use Rattle.blake2b.specs.Workers.{Row, column, joined, four, turned, back};
 use std::num::wrapping_add_u64;
 use words::load::load_u64;
 use words::load::load_words;

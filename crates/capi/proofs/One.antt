@@ -18,18 +18,20 @@ use Rattle.primitives.specs.declared.Outpoint.{Outpoint}
 use Rattle.covenants.specs.Kind.{isName, isLinked, isUnspendable}
 use Rattle.covenants.specs.Written.{sizeAnswer, encodeAnswer, encodeContent}
 use Rattle.covenants.specs.Items.{Maybe, directoryItem, seekAt, wide, numberIn}
-use Rattle.covenants.specs.Run.{runSaid, runOf, stepOf}
+use Rattle.runs.specs.Run.{runSaid}
+use Rattle.runs.specs.Covenants.{defaultAllowance, covenantRun, covenantStep}
 use Rattle.covenants.specs.Paper as items
 use Rattle.covenants.specs.Paper.{directoryOf}
 use Rattle.names.specs.Name.{validName, nameHash}
+use Rattle.refusal.specs.Outcome.{refusedBy}
 use Rattle.names.specs.Paper.{shownHash}
 use Rattle.names.specs.Blind.{blindOf}
 use Rattle.name_state.specs.State.{null, bitmap, binding, sameState}
 use Rattle.name_state.specs.Paper.{stateOf, stored, nullState, ownerOf, classOf, classNumber}
 use Rattle.name_state.specs.declared.NameState.{NameState}
-use Rattle.name_states.specs.Written as states
-use Rattle.name_states.specs.Read.{readState}
-use Rattle.name_states.specs.Paper.{shownState}
+use Rattle.name_state_codec.specs.Written as states
+use Rattle.name_state_codec.specs.Read.{readState}
+use Rattle.name_state_codec.specs.Paper.{shownState}
 use Rattle.sheets.specs.Sheet.{inputAt, placeAt, transactionCounts, coinCounts}
 use Rattle.sheets.specs.Viewer.{viewOf}
 use Rattle.links.specs.Verify.{verifyOf}
@@ -40,7 +42,7 @@ use Rattle.capi.specs.declared.amounts.AmountAnswer.{AmountAnswer}
 use Rattle.capi.specs.Linkage.{linksFlat}
 use Rattle.capi.specs.declared.linkage.LinksAnswer.{LinksAnswer}
 use Rattle.capi.specs.Flat.{covenantFlat, writeFlat}
-use Rattle.capi.specs.States.{refusedBy, stateFlat, ownerFlat}
+use Rattle.capi.specs.States.{stateFlat, ownerFlat}
 use Rattle.capi.specs.Sheet.{sheetFlat, outputFlat, viewFlat}
 use Rattle.capi.specs.Reading.{numberFlat, spanFlat, movedFlat, outpointFlat}
 use Rattle.capi.specs.Items.{stepFlat, runFlat, placeFlat, itemFlat}
@@ -127,7 +129,7 @@ module _ (p : NameState) where
   pub turgamysk-name-state-bitmap-one : {r r′ : ℕ} → r ≡ bitmap (stateOf p) → r′ ≡ bitmap (stateOf p) → r ≡ r′
   turgamysk-name-state-bitmap-one = one
 
-  pub turgamysk-name-state-validate-key-binding-one : {r r′ : ℕ} → r ≡ binding (stateOf p) → r′ ≡ binding (stateOf p) → r ≡ r′
+  pub turgamysk-name-state-validate-key-binding-one : {r r′ : ℕ} → r ≡ refusedBy (binding (stateOf p)) → r′ ≡ refusedBy (binding (stateOf p)) → r ≡ r′
   turgamysk-name-state-validate-key-binding-one = one
 
   pub turgamysk-name-state-is-null-one : {r r′ : Bool} → r ≡ null (stateOf p) → r′ ≡ null (stateOf p) → r ≡ r′
@@ -257,11 +259,22 @@ module _ (a : Outpoint) where
 
 -- ---- runs, items and kinds
 
-pub turgamysk-covenant-run-next-one : (limit : ℕ) (s : List ℕ) (at count : ℕ) {r r′ : StepAnswer} → r ≡ stepFlat (stepOf limit s at count) → r′ ≡ stepFlat (stepOf limit s at count) → r ≡ r′
-turgamysk-covenant-run-next-one limit s at count = one
+module _ (s : List ℕ) (at count : ℕ) {r r′ : StepAnswer} where
+  pub turgamysk-covenant-run-next-one : r ≡ stepFlat (covenantStep defaultAllowance s at count) → r′ ≡ stepFlat (covenantStep defaultAllowance s at count) → r ≡ r′
+  turgamysk-covenant-run-next-one = one
 
-pub turgamysk-covenant-read-run-one : (limit : ℕ) (s : List ℕ) {r r′ : RunAnswer} → r ≡ runFlat (runSaid (runOf limit s)) → r′ ≡ runFlat (runSaid (runOf limit s)) → r ≡ r′
-turgamysk-covenant-read-run-one limit s = one
+  pub turgamysk-covenant-run-next-with-limit-one : (limit : ℕ) → r ≡ stepFlat (covenantStep limit s at count) → r′ ≡ stepFlat (covenantStep limit s at count) → r ≡ r′
+  turgamysk-covenant-run-next-with-limit-one limit = one
+
+module _ (s : List ℕ) {r r′ : RunAnswer} where
+  pub turgamysk-covenant-read-run-one : r ≡ runFlat (runSaid (covenantRun defaultAllowance s)) → r′ ≡ runFlat (runSaid (covenantRun defaultAllowance s)) → r ≡ r′
+  turgamysk-covenant-read-run-one = one
+
+  pub turgamysk-covenant-read-run-with-limit-one : (limit : ℕ) → r ≡ runFlat (runSaid (covenantRun limit s)) → r′ ≡ runFlat (runSaid (covenantRun limit s)) → r ≡ r′
+  turgamysk-covenant-read-run-with-limit-one limit = one
+
+  pub turgamysk-covenant-import-archive-one : r ≡ runFlat (runSaid (covenantRun defaultAllowance s)) → r′ ≡ runFlat (runSaid (covenantRun defaultAllowance s)) → r ≡ r′
+  turgamysk-covenant-import-archive-one = one
 
 pub turgamysk-covenant-find-one : (s : List ℕ) (at index : ℕ) {r r′ : ViewAnswer} → r ≡ placeFlat (seekAt s at index) → r′ ≡ placeFlat (seekAt s at index) → r ≡ r′
 turgamysk-covenant-find-one s at index = one

@@ -3,25 +3,27 @@ use Prim.Native.Nat.{ℕ}
 use mathlib.Core.Bool.{true, false}
 use mathlib.Core.List.{List}
 use lib.ListN.{getD}
+use Rattle.refusal.specs.Outcome.{positionOf}
+use Rattle.covenants.specs.Covenant.{Said}
 use Rattle.covenants.specs.Items.{Maybe, there, absent}
-use Rattle.covenants.specs.Run.{End, ended, stopped, Advance, covenant, last}
+use Rattle.runs.specs.Run.{End, ended, stopped, Advance, handed, last}
 use Rattle.capi.specs.declared.sheet.ViewAnswer.{ViewAnswer}
 use Rattle.capi.specs.declared.items.StepAnswer.{StepAnswer}
 use Rattle.capi.specs.declared.items.RunAnswer.{RunAnswer}
 use Rattle.capi.specs.declared.items.ItemAnswer.{ItemAnswer}
 
 -- a step that gave a covenant has it, and the position after it; the last one says whether no bytes are left
-abbrev pub stepAfter : Advance → ℕ → StepAnswer
-stepAfter (covenant said next) n = record { number = 0; first = 0; second = 0; third = 0; position = next; ended = false; kind = said .0; count = said .1; used = said .2; covenants = n }
+abbrev pub stepAfter : Advance Said → ℕ → StepAnswer
+stepAfter (handed said next) n = record { number = 0; first = 0; second = 0; third = 0; position = next; ended = false; kind = said .0; count = said .1; used = said .2; covenants = n }
 stepAfter (last ended) n = record { number = 0; first = 0; second = 0; third = 0; position = 0; ended = true; kind = 0; count = 0; used = 0; covenants = n }
-stepAfter (last (stopped k vs p)) n = record { number = k; first = getD vs 0 0; second = getD vs 1 0; third = getD vs 2 0; position = p; ended = false; kind = 0; count = 0; used = 0; covenants = n }
+stepAfter (last (stopped k vs p)) n = record { number = k; first = getD vs 0 0; second = getD vs 1 0; third = getD vs 2 0; position = positionOf p; ended = false; kind = 0; count = 0; used = 0; covenants = n }
 
-abbrev pub stepFlat : Advance × ℕ → StepAnswer
+abbrev pub stepFlat : Advance Said × ℕ → StepAnswer
 stepFlat a = stepAfter (a .0) (a .1)
 
 abbrev pub runAfter : End → ℕ → RunAnswer
 runAfter ended n = record { number = 0; first = 0; second = 0; third = 0; position = 0; covenants = n }
-runAfter (stopped k vs p) n = record { number = k; first = getD vs 0 0; second = getD vs 1 0; third = getD vs 2 0; position = p; covenants = n }
+runAfter (stopped k vs p) n = record { number = k; first = getD vs 0 0; second = getD vs 1 0; third = getD vs 2 0; position = positionOf p; covenants = n }
 
 abbrev pub runFlat : End × ℕ → RunAnswer
 runFlat e = runAfter (e .0) (e .1)

@@ -3,7 +3,7 @@ use Prim.Native.Nat.{ℕ}
 use mathlib.Core.Bool.{true, false}
 use mathlib.Core.List.{List}
 use lib.ListN.{getD}
-use Rattle.refusal.specs.Outcome.{Outcome, ok, err}
+use Rattle.refusal.specs.Outcome.{positionOf, Outcome, ok, err}
 use Rattle.sheets.specs.Sheet.{Judged, whole, refused}
 use Rattle.sheets.specs.Viewer.{View, inTransaction, inCoins, nowhere}
 use Rattle.capi.specs.declared.sheet.SheetAnswer.{SheetAnswer}
@@ -26,9 +26,9 @@ outputFlat (ok place p) =
       third = 0;
       position = p;
       value = place .value .0;
-      version = place .version;
-      start = place .start;
-      size = place .size;
+      version = place .address .version;
+      start = place .address .start;
+      size = place .address .len;
       covenant = place .covenant;
       kind = place .kind;
     }
@@ -38,7 +38,7 @@ outputFlat (err k vs p) =
       first = getD vs 0 0;
       second = getD vs 1 0;
       third = getD vs 2 0;
-      position = p;
+      position = positionOf p;
       value = 0;
       version = 0;
       start = 0;

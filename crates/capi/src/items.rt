@@ -15,21 +15,25 @@ use covenants::items::item_u64;
 use covenants::kind::is_linked;
 use covenants::kind::is_name;
 use covenants::kind::is_unspendable;
-use covenants::run::Run;
-use covenants::run::RunEnd;
-use covenants::run::Step;
-use covenants::run::read_run;
 use covenants::write::encoded_size;
 use encoding::read::Cursor;
 use refusal::carried_by;
 use refusal::number;
+use runs::Run;
+use runs::RunEnd;
+use runs::Step;
+use runs::archive::import_archive;
+use runs::read_run;
+use runs::read_run_with_limit;
 ghost use mathlib.Core.Path.{_≡_};
 ghost use mathlib.Core.Bool.{true, false};
 ghost use Rattle.covenants.specs.Kind.{isName, isLinked, isUnspendable};
 ghost use Rattle.covenants.specs.Written.{sizeAnswer};
 ghost use Rattle.covenants.specs.Items.{there, absent, directoryItem, seekAt, wide, numberIn};
-ghost use Rattle.covenants.specs.Run.{runSaid, runOf, stepOf};
-ghost use Rattle.covenants.specs.Paper.{spotPaper, shownHash, stepPaper, runEndPaper};
+ghost use Rattle.covenants.specs.Paper.{spotPaper, shownHash};
+ghost use Rattle.runs.specs.Run.{runSaid};
+ghost use Rattle.runs.specs.Covenants.{defaultAllowance, covenantRun, covenantStep};
+ghost use Rattle.runs.specs.Paper.{stepPaper, runEndPaper};
 ghost use Rattle.capi.specs.Flat.{writeFlat};
 ghost use Rattle.capi.specs.Items.{stepFlat, runFlat, placeFlat, itemFlat};
 
@@ -188,24 +192,53 @@ fn no_item() -> ItemAnswer
 #[no_mangle]
 pub extern "C" fn turgamysk_covenant_run_next(
     source: &[u8],
-    limit: usize,
     position: usize,
     count: usize,
 ) -> StepAnswer
-    ensures { λ r. ⌜ r ≡ stepFlat (stepOf limit (now (source .entry)) position count) ⌝ }
+    ensures { λ r. ⌜ r ≡ stepFlat (covenantStep defaultAllowance (now (source .entry)) position count) ⌝ }
 {
     let run = Run {
         cursor: Cursor { position },
         count,
     };
-    step_answer(run.next(source, limit))
+    step_answer(run.next(source))
 }
 
 #[no_mangle]
-pub extern "C" fn turgamysk_covenant_read_run(source: &[u8], limit: usize) -> RunAnswer
-    ensures { λ r. ⌜ r ≡ runFlat (runSaid (runOf limit (now (source .entry)))) ⌝ }
+pub extern "C" fn turgamysk_covenant_run_next_with_limit(
+    source: &[u8],
+    limit: usize,
+    position: usize,
+    count: usize,
+) -> StepAnswer
+    ensures { λ r. ⌜ r ≡ stepFlat (covenantStep limit (now (source .entry)) position count) ⌝ }
 {
-    run_answer(read_run(source, limit))
+    let run = Run {
+        cursor: Cursor { position },
+        count,
+    };
+    step_answer(run.next_with_limit(source, limit))
+}
+
+#[no_mangle]
+pub extern "C" fn turgamysk_covenant_read_run(source: &[u8]) -> RunAnswer
+    ensures { λ r. ⌜ r ≡ runFlat (runSaid (covenantRun defaultAllowance (now (source .entry)))) ⌝ }
+{
+    run_answer(read_run(source))
+}
+
+#[no_mangle]
+pub extern "C" fn turgamysk_covenant_read_run_with_limit(source: &[u8], limit: usize) -> RunAnswer
+    ensures { λ r. ⌜ r ≡ runFlat (runSaid (covenantRun limit (now (source .entry)))) ⌝ }
+{
+    run_answer(read_run_with_limit(source, limit))
+}
+
+#[no_mangle]
+pub extern "C" fn turgamysk_covenant_import_archive(source: &[u8]) -> RunAnswer
+    ensures { λ r. ⌜ r ≡ runFlat (runSaid (covenantRun defaultAllowance (now (source .entry)))) ⌝ }
+{
+    run_answer(import_archive(source))
 }
 
 // ---- items

@@ -2,13 +2,12 @@
 use crate::WriteAnswer;
 use crate::write_answer;
 use encoding::read::Moved;
-use name_state::Binding;
 use name_state::Class;
 use name_state::NameState;
-use name_states::decode::Decoded;
-use name_states::decode::decode;
-use name_states::encode::encode;
-use name_states::encode::encoded_size;
+use name_state_codec::decode::Decoded;
+use name_state_codec::decode::decode;
+use name_state_codec::encode::encode;
+use name_state_codec::encode::encoded_size;
 use names::blind_bid;
 use names::hash_name;
 use names::validate_name;
@@ -16,20 +15,22 @@ use primitives::Dollarydoos;
 use primitives::NameHash;
 use primitives::Outpoint;
 use refusal::carried_by;
+use refusal::judgement_number;
 use refusal::number;
 ghost use mathlib.Core.Path.{_≡_};
 ghost use mathlib.Core.List.{[]};
 ghost use Rattle.words.specs.Buffers.{pick};
+ghost use Rattle.refusal.specs.Outcome.{refusedBy};
 ghost use Rattle.names.specs.Name.{validName, nameHash};
 ghost use Rattle.names.specs.Paper.{shownHash};
 ghost use Rattle.names.specs.Blind.{blindOf};
 ghost use Rattle.name_state.specs.State.{null, bitmap, binding, sameState};
 ghost use Rattle.name_state.specs.Paper.{stateOf, stored, nullState, ownerOf, classOf, classNumber};
-ghost use Rattle.name_states.specs.Written.{checkedSize, encodeAnswer, encodeContent};
-ghost use Rattle.name_states.specs.Read.{readState};
-ghost use Rattle.name_states.specs.Paper.{decodedPaper, shownState};
+ghost use Rattle.name_state_codec.specs.Written.{checkedSize, encodeAnswer, encodeContent};
+ghost use Rattle.name_state_codec.specs.Read.{readState};
+ghost use Rattle.name_state_codec.specs.Paper.{decodedPaper, shownState};
 ghost use Rattle.capi.specs.Flat.{writeFlat};
-ghost use Rattle.capi.specs.States.{refusedBy, stateFlat, ownerFlat};
+ghost use Rattle.capi.specs.States.{stateFlat, ownerFlat};
 
 // ---- names
 
@@ -52,10 +53,8 @@ pub extern "C" fn turgamysk_hash_name(name: &[u8], digest: &mut [u8; 32]) -> u8
     let hash = hashed.hash;
     let d = hash.0;
     *digest = d;
-    if hashed.valid {
-        return 0;
-    }
-    6
+    let judgement = hashed.judgement;
+    judgement_number(judgement)
 }
 
 #[no_mangle]
@@ -170,13 +169,9 @@ pub extern "C" fn turgamysk_name_state_bitmap(state: NameState) -> u16
 
 #[no_mangle]
 pub extern "C" fn turgamysk_name_state_validate_key_binding(state: NameState) -> u8
-    ensures { λ r. ⌜ r ≡ binding (stateOf state) ⌝ }
+    ensures { λ r. ⌜ r ≡ refusedBy (binding (stateOf state)) ⌝ }
 {
-    match state.validate_key_binding() {
-        Binding::Bound => 0,
-        Binding::NoName => 6,
-        Binding::OtherKey => 9,
-    }
+    judgement_number(state.validate_key_binding())
 }
 
 #[no_mangle]

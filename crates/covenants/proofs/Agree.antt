@@ -14,7 +14,7 @@ use Rattle.covenants.specs.Covenant.{itemAt, headAt, Reading, covenantAt
 use Rattle.covenants.specs.Items.{there, absent, found, nth, seekAt, directoryItem}
 use Rattle.words.specs.Buffers.{padded}
 use Rattle.covenants.specs.Paper.{listed, directoryOf}
-use Rattle.covenants.specs.Filling.{starts-of, lens-of}
+use Rattle.covenants.specs.Workers.{starts-of, lens-of}
 use Rattle.covenants.proofs.Moves.{item-read, head-read, covenant-accepted}
 
 nth-none : (xs : List (ℕ × ℕ)) (k : ℕ) → length xs ≤ k → nth xs k ≡ absent

@@ -6,11 +6,11 @@ use mathlib.Core.List.{List, [], _∷_, _++_, map, append-nil}
 use lib.ListN.{length, length-append, length-map, set, replicate}
 use lib.Seq.{set-append-seam, append-snoc}
 use Rattle.words.specs.Buffers.{padded}
-use Rattle.refusal.specs.Outcome.{Outcome, ok, err, then, past, manyAt, listOf}
+use Rattle.refusal.specs.Outcome.{Stand, Outcome, ok, err, then, past, manyAt, listOf}
 use Rattle.refusal.proofs.Outcomes.{never}
 use Rattle.covenants.specs.Covenant.{itemAt, headAt, Reading, Said, finished, opening, covenantAt, skimmed}
 use Rattle.covenants.specs.Paper.{listed, directoryOf, shown}
-use Rattle.covenants.specs.Filling.{starts-of, lens-of, Filling}
+use Rattle.covenants.specs.Workers.{starts-of, lens-of, Filling}
 use Rattle.covenants.specs.declared.Covenant.{Covenant}
 use Rattle.covenants.proofs.Moves.{skim-body}
 
@@ -65,7 +65,7 @@ module _ (read : ℕ → Outcome (ℕ × ℕ)) where
         go (err k vs p) = refl
 
     -- the next item was refused
-    pub stopped : {k : ℕ} {vs : List ℕ} {p : ℕ} → i < count → read at ≡ err k vs p → err k vs p ≡ manyAt read count from
+    pub stopped : {k : ℕ} {vs : List ℕ} {p : Stand} → i < count → read at ≡ err k vs p → err k vs p ≡ manyAt read count from
     unfolding manyAt
     stopped h e =
         let k : count - i ≡ suc (count - (i + 1)) = omega arith in
@@ -89,7 +89,7 @@ module _ (read : ℕ → Outcome (ℕ × ℕ)) where
         let e = ended h in
         (ap past e, (r .firsts ∙ ap (λ o. listed (starts-of (listOf o))) e, r .sizes ∙ ap (λ o. listed (lens-of (listOf o))) e))
 
-    pub none-kept : {k : ℕ} {vs : List ℕ} {p : ℕ} {starts′ lens′ : List ℕ} → i < count → read at ≡ err k vs p → (starts′ ≡ listed []) × (lens′ ≡ listed []) → Kept (err k vs p) starts′ lens′
+    pub none-kept : {k : ℕ} {vs : List ℕ} {p : Stand} {starts′ lens′ : List ℕ} → i < count → read at ≡ err k vs p → (starts′ ≡ listed []) × (lens′ ≡ listed []) → Kept (err k vs p) starts′ lens′
     none-kept h f zeros =
         let e = stopped h f in
         (ap past e, (zeros .0 ∙ ap (λ o. listed (starts-of (listOf o))) e, zeros .1 ∙ ap (λ o. listed (lens-of (listOf o))) e))
@@ -114,7 +114,7 @@ pub tells-same : {o o′ : Outcome Reading} {said : Outcome Said} {starts lens :
 tells-same e t = rw (← e) t
 
 -- a refusal, and zeros
-pub tells-refused : {o : Outcome Reading} {k : ℕ} {vs : List ℕ} {p : ℕ} {starts lens : List ℕ} → o ≡ err k vs p → (starts ≡ listed []) × (lens ≡ listed []) → Tells o (err k vs p) starts lens
+pub tells-refused : {o : Outcome Reading} {k : ℕ} {vs : List ℕ} {p : Stand} {starts lens : List ℕ} → o ≡ err k vs p → (starts ≡ listed []) × (lens ≡ listed []) → Tells o (err k vs p) starts lens
 unfolding directoryOf
 tells-refused e zeros = rw e (refl, zeros)
 
@@ -140,7 +140,7 @@ module _ {starts lens : List ℕ} where
       ap₂ (λ (x : Outcome Said) (y : Covenant). (x, y)) e (rw (k, n, f, g))
   accepted-shown (err k vs q) e f g = absurd (never refl e)
 
-  pub refused-shown : (o : Outcome Reading) {said : Outcome Said} {k : ℕ} {vs : List ℕ} {p : ℕ} → said ≡ err k vs p → said ≡ skimmed o → starts ≡ directoryOf o .starts → lens ≡ directoryOf o .lens
+  pub refused-shown : (o : Outcome Reading) {said : Outcome Said} {k : ℕ} {vs : List ℕ} {p : Stand} → said ≡ err k vs p → said ≡ skimmed o → starts ≡ directoryOf o .starts → lens ≡ directoryOf o .lens
       → (said, record { kind = 0; count = 0; starts = starts; lens = lens }) ≡ shown o
   unfolding directoryOf
   refused-shown (ok c q) h e f g = absurd (never e h)
@@ -152,6 +152,6 @@ pub found : (o : Outcome Reading) {x : Said} {p : ℕ} → skimmed o ≡ ok x p 
 found (ok c q) {x} {p} e = let h : q ≡ p = cc in (c, ap (ok c) h)
 found (err k vs q) e = absurd (never e refl)
 
-pub refused : (o : Outcome Reading) {k : ℕ} {vs : List ℕ} {p : ℕ} → skimmed o ≡ err k vs p → o ≡ err k vs p
+pub refused : (o : Outcome Reading) {k : ℕ} {vs : List ℕ} {p : Stand} → skimmed o ≡ err k vs p → o ≡ err k vs p
 refused (ok c q) e = absurd (never refl e)
 refused (err k vs q) e = cc

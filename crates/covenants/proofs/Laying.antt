@@ -13,7 +13,7 @@ use Rattle.refusal.specs.Outcome.{Wrote, wrote, refused}
 use Rattle.encoding.specs.Wire.{compact, compactSize, varbytes}
 use Rattle.encoding.proofs.Compact.{length-compact, put-room, put-none}
 use Rattle.covenants.specs.Covenant.{bytesIn, contents}
-use Rattle.covenants.specs.Written.{itemsBytes, covenantBytes, parts, Held, sizeAnswer, directoryBytes, encodeAnswer, encodeContent}
+use Rattle.covenants.specs.Written.{itemsBytes, covenantBytes, parts, Held, tableSize, tableBytes, tableAnswer, tableContent}
 use Rattle.covenants.proofs.Checks.{parts-more, parts-none, length-parts}
 
 -- what is laid where there is room
@@ -31,47 +31,48 @@ item-laid source from n at d h e =
     e ∙ rw k (laid-over at (varbytes (bytesIn source (from, n))) d (length (varbytes (bytesIn source (from, n)))) refl h)
 
 -- after i of count items: what was laid, and what is left to lay
-pub record Putting (source starts lens : List ℕ) (count first : ℕ) (d₀ d : List ℕ) (at i : ℕ) : Type 0 where
+pub record Putting (source starts lens : List ℕ) (first count place : ℕ) (d₀ d : List ℕ) (at i : ℕ) : Type 0 where
   pub bound : i ≤ count
   pub kept : length d ≡ length d₀
-  pub held : Held (length source) (parts starts lens i (count - i))
+  pub held : Held (length source) (parts starts lens (first + i) (count - i))
   pub done : List ℕ
-  pub so-far : Laid d₀ first done d at
-  pub rest : done ++ itemsBytes (contents source (parts starts lens i (count - i))) ≡ itemsBytes (contents source (parts starts lens 0 count))
-  pub room : first + length (itemsBytes (contents source (parts starts lens 0 count))) ≤ length d₀
+  pub so-far : Laid d₀ place done d at
+  pub rest : done ++ itemsBytes (contents source (parts starts lens (first + i) (count - i))) ≡ itemsBytes (contents source (parts starts lens first count))
+  pub room : place + length (itemsBytes (contents source (parts starts lens first count))) ≤ length d₀
 
-module _ (source starts lens : List ℕ) (count first : ℕ) (d₀ : List ℕ) where
+module _ (source starts lens : List ℕ) (first count place : ℕ) (d₀ : List ℕ) where
   abbrev Whole : List ℕ
-  Whole = itemsBytes (contents source (parts starts lens 0 count))
+  Whole = itemsBytes (contents source (parts starts lens first count))
 
   abbrev Left : ℕ → List ℕ
-  Left i = itemsBytes (contents source (parts starts lens i (count - i)))
+  Left i = itemsBytes (contents source (parts starts lens (first + i) (count - i)))
 
   abbrev One : ℕ → List ℕ
-  One i = varbytes (bytesIn source (getD starts i 0, getD lens i 0))
+  One i = varbytes (bytesIn source (getD starts (first + i) 0, getD lens (first + i) 0))
 
-  pub begin : Held (length source) (parts starts lens 0 count) → first + length Whole ≤ length d₀ → Putting source starts lens count first d₀ d₀ first 0
+  pub begin : Held (length source) (parts starts lens first count) → place + length Whole ≤ length d₀ → Putting source starts lens first count place d₀ d₀ place 0
   begin h room =
       let z : count - 0 ≡ count = omega arith in
+      let o : first + 0 ≡ first = omega arith in
       record {
         bound = omega arith;
         kept = refl;
-        held = rw z h;
+        held = rw (z, o) h;
         done = [];
-        so-far = record { ends = omega arith; holds = sym (over-nothing first d₀) };
-        rest = rw z;
+        so-far = record { ends = omega arith; holds = sym (over-nothing place d₀) };
+        rest = rw (z, o);
         room = room;
       }
 
-  module _ {d : List ℕ} {at i : ℕ} (r : Putting source starts lens count first d₀ d at i) where
+  module _ {d : List ℕ} {at i : ℕ} (r : Putting source starts lens first count place d₀ d at i) where
     module _ (h : i < count) where
-      step : parts starts lens i (count - i) ≡ (getD starts i 0, getD lens i 0) ∷ parts starts lens (i + 1) (count - (i + 1))
-      step = parts-more starts lens i (omega arith) (omega arith)
+      step : parts starts lens (first + i) (count - i) ≡ (getD starts (first + i) 0, getD lens (first + i) 0) ∷ parts starts lens (first + (i + 1)) (count - (i + 1))
+      step = parts-more starts lens (first + i) (omega arith) (omega arith)
 
-      held-here : (getD starts i 0 + getD lens i 0 ≤ length source) × Held (length source) (parts starts lens (i + 1) (count - (i + 1)))
+      held-here : (getD starts (first + i) 0 + getD lens (first + i) 0 ≤ length source) × Held (length source) (parts starts lens (first + (i + 1)) (count - (i + 1)))
       held-here = rw step at (r .held)
 
-      pub next-held : getD starts i 0 + getD lens i 0 ≤ length source
+      pub next-held : getD starts (first + i) 0 + getD lens (first + i) 0 ≤ length source
       next-held = held-here .0
 
       split : Left i ≡ One i ++ Left (i + 1)
@@ -87,7 +88,7 @@ module _ (source starts lens : List ℕ) (count first : ℕ) (d₀ : List ℕ) w
       pub next-fits : at + length (One i) ≤ length d
       next-fits = omega (arith, sum, r .kept, r .so-far .ends, r .room)
 
-      pub more : {d′ : List ℕ} {at′ : ℕ} → at′ ≡ at + length (One i) → d′ ≡ over at (One i) d → Putting source starts lens count first d₀ d′ at′ (i + 1)
+      pub more : {d′ : List ℕ} {at′ : ℕ} → at′ ≡ at + length (One i) → d′ ≡ over at (One i) d → Putting source starts lens first count place d₀ d′ at′ (i + 1)
       more {d′} {at′} p e =
           let long = length-append (r .done) (One i) in
           let s = sum in
@@ -102,68 +103,68 @@ module _ (source starts lens : List ℕ) (count first : ℕ) (d₀ : List ℕ) w
             room = r .room;
           }
 
-    pub ended : count ≤ i → d ≡ over first Whole d₀
+    pub ended : count ≤ i → d ≡ over place Whole d₀
     unfolding itemsBytes
     ended h =
         let k : count - i ≡ 0 = omega (arith, r .bound) in
-        let all : r .done ≡ Whole = sym (append-nil (r .done)) ∙ (rw (parts-none starts lens i k) at (r .rest)) in
-        r .so-far .holds ∙ ap (λ bs. over first bs d₀) all
+        let all : r .done ≡ Whole = sym (append-nil (r .done)) ∙ (rw (parts-none starts lens (first + i) k) at (r .rest)) in
+        r .so-far .holds ∙ ap (λ bs. over place bs d₀) all
 
 -- the kind, the count and the items
-pub whole-laid : (kind : ℕ) (source : List ℕ) (ps : List (ℕ × ℕ)) (n : ℕ) (d : List ℕ) {d₁ d₂ d₃ : List ℕ} {first : ℕ} → length ps ≡ n → kind < 256
-    → length (covenantBytes kind (contents source ps)) ≤ length d → first ≡ 1 + compactSize n
-    → d₁ ≡ laid 0 (bytes 1 kind) d → d₂ ≡ laid 1 (compact n) d₁ → d₃ ≡ over first (itemsBytes (contents source ps)) d₂
-    → d₃ ≡ over 0 (covenantBytes kind (contents source ps)) d
+pub whole-laid : (at kind : ℕ) (source : List ℕ) (ps : List (ℕ × ℕ)) (n : ℕ) (d : List ℕ) {d₁ d₂ d₃ : List ℕ} {place : ℕ} → length ps ≡ n → kind < 256
+    → at + length (covenantBytes kind (contents source ps)) ≤ length d → place ≡ at + 1 + compactSize n
+    → d₁ ≡ laid at (bytes 1 kind) d → d₂ ≡ laid (at + 1) (compact n) d₁ → d₃ ≡ over place (itemsBytes (contents source ps)) d₂
+    → d₃ ≡ over at (covenantBytes kind (contents source ps)) d
 unfolding bytes covenantBytes
-whole-laid kind source ps n d {d₁} {d₂} {d₃} {first} many byte fits p e₁ e₂ e₃ =
+whole-laid at kind source ps n d {d₁} {d₂} {d₃} {place} many byte fits p e₁ e₂ e₃ =
     let xs : List ℕ = itemsBytes (contents source ps) in
     let few : length (contents source ps) ≡ n = length-map ps (bytesIn source) ∙ many in
     let one : bytes 1 kind ≡ kind ∷ [] = rw mod-eq-of-lt in
     let two : length (compact n) ≡ compactSize n = length-compact n in
     let whole : covenantBytes kind (contents source ps) ≡ kind ∷ (compact n ++ xs) = rw few in
-    let room : 1 + compactSize n + length xs ≤ length d = omega (arith, ap length whole, length-append (compact n) xs) in
-    let a : Laid d 0 (kind ∷ []) d₁ 1 = laid-here 0 (kind ∷ []) d (omega arith) refl (e₁ ∙ ap (λ bs. laid 0 bs d) one) in
+    let room : at + (1 + compactSize n + length xs) ≤ length d = omega (arith, ap length whole, length-append (compact n) xs) in
+    let a : Laid d at (kind ∷ []) d₁ (at + 1) = laid-here at (kind ∷ []) d (omega arith) refl (e₁ ∙ ap (λ bs. laid at bs d) one) in
     let l₁ : length d₁ ≡ length d = laid-long a (omega arith) in
-    let b : Laid d₁ 1 (compact n) d₂ first = laid-here 1 (compact n) d₁ (omega arith) (omega arith) e₂ in
+    let b : Laid d₁ (at + 1) (compact n) d₂ place = laid-here (at + 1) (compact n) d₁ (omega arith) (omega arith) e₂ in
     let sum = length-append (compact n) xs in
-    let c : Laid d 0 (kind ∷ compact n) d₂ first = both (omega arith) a b in
-    let x : Laid d₂ first xs d₃ (first + length xs) = record { ends = refl; holds = e₃ } in
-    let y : Laid d 0 (kind ∷ (compact n ++ xs)) d₃ (first + length xs) = both (omega arith) c x in
-    y .holds ∙ ap (λ bs. over 0 bs d) (sym whole)
+    let c : Laid d at (kind ∷ compact n) d₂ place = both (omega arith) a b in
+    let x : Laid d₂ place xs d₃ (place + length xs) = record { ends = refl; holds = e₃ } in
+    let y : Laid d at (kind ∷ (compact n ++ xs)) d₃ (place + length xs) = both (omega arith) c x in
+    y .holds ∙ ap (λ bs. over at bs d) (sym whole)
 
 -- room for the whole, and where the items begin
-pub items-room : (kind : ℕ) (source starts lens : List ℕ) (count room : ℕ) {first : ℕ} → first ≡ 1 + compactSize count → length (directoryBytes kind source starts lens count) ≤ room
-    → first + length (itemsBytes (contents source (parts starts lens 0 count))) ≤ room
+pub items-room : (at kind : ℕ) (source starts lens : List ℕ) (first count room : ℕ) {place : ℕ} → place ≡ at + 1 + compactSize count → at + length (tableBytes kind source starts lens first count) ≤ room
+    → place + length (itemsBytes (contents source (parts starts lens first count))) ≤ room
 unfolding covenantBytes
-items-room kind source starts lens count room {first} p h =
-    let ps : List (ℕ × ℕ) = parts starts lens 0 count in
+items-room at kind source starts lens first count room {place} p h =
+    let ps : List (ℕ × ℕ) = parts starts lens first count in
     let xs : List ℕ = itemsBytes (contents source ps) in
     let n = length (contents source ps) in
-    let few : n ≡ count = length-map ps (bytesIn source) ∙ length-parts starts lens 0 count in
+    let few : n ≡ count = length-map ps (bytesIn source) ∙ length-parts starts lens first count in
     omega (arith, length-append (compact n) xs, length-compact n, ap compactSize few)
 
 -- ---- the writer's answer, and what the buffer holds in the end
 
-module _ (kind : ℕ) (source starts lens : List ℕ) (count : ℕ) (d : List ℕ) where
+module _ (at kind : ℕ) (source starts lens : List ℕ) (first count : ℕ) (d : List ℕ) where
   abbrev Bytes : List ℕ
-  Bytes = directoryBytes kind source starts lens count
+  Bytes = tableBytes kind source starts lens first count
 
   abbrev Answers : Wrote → List ℕ → Type 0
-  Answers w d′ = (w ≡ encodeAnswer kind source starts lens count d) × (d′ ≡ encodeContent kind source starts lens count d)
+  Answers w d′ = (w ≡ tableAnswer at kind source starts lens first count d) × (d′ ≡ tableContent at kind source starts lens first count d)
 
-  pub encode-refused : {k : ℕ} {vs : List ℕ} → sizeAnswer source starts lens count ≡ refused k vs → Answers (refused k vs) d
-  unfolding encodeAnswer encodeContent
+  pub encode-refused : {k : ℕ} {vs : List ℕ} → tableSize source starts lens first count ≡ refused k vs → Answers (refused k vs) d
+  unfolding tableAnswer tableContent
   encode-refused e = (rw e, rw e)
 
-  module _ {n : ℕ} (e : sizeAnswer source starts lens count ≡ wrote n) (long : length Bytes ≡ n) where
-    pub encode-none : length d < n → Answers (refused 29 (n ∷ [])) d
-    unfolding encodeAnswer encodeContent
+  module _ {n : ℕ} (e : tableSize source starts lens first count ≡ wrote n) (long : length Bytes ≡ n) where
+    pub encode-none : length d < at + n → Answers (refused 29 (n ∷ [])) d
+    unfolding tableAnswer tableContent
     encode-none h =
-        let w = put-none 0 Bytes d n long (omega arith) in
+        let w = put-none at Bytes d n long (omega arith) in
         (rw e (w .0), rw (e, ← w .0))
 
-    pub encode-room : n ≤ length d → {d′ : List ℕ} → d′ ≡ over 0 Bytes d → Answers (wrote n) d′
-    unfolding encodeAnswer encodeContent
+    pub encode-room : at + n ≤ length d → {d′ : List ℕ} → d′ ≡ over at Bytes d → Answers (wrote n) d′
+    unfolding tableAnswer tableContent
     encode-room h f =
-        let w = put-room 0 Bytes d n long (omega arith) f in
+        let w = put-room at Bytes d n long (omega arith) f in
         (rw e (w .0), rw (e, ← w .0) f)

@@ -4,10 +4,11 @@ pub mod Directory
 pub mod Places
 pub mod Checks
 pub mod Laying
-pub mod Steps
+pub mod Writable
 pub mod Back
 pub mod Again
 pub mod Agree
+pub mod Grows
 pub mod Theorems
 pub mod Same
 pub mod One

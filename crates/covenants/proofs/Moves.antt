@@ -8,7 +8,7 @@ use lib.ListN.{length}
 use lib.Dec.{ltb, eqb}
 use borrow.Author.Tests.{ltb-false, lt-ltb, le-ltb}
 use Rattle.words.specs.Buffers.{pick}
-use Rattle.refusal.specs.Outcome.{Outcome, ok, err, then, past, manyAt}
+use Rattle.refusal.specs.Outcome.{Stand, Outcome, ok, err, then, past, manyAt}
 use Rattle.refusal.proofs.Outcomes.{then-ok, passed, never, then-err, past-ok}
 use Rattle.refusal.proofs.Many.{many-long, many-next}
 use Rattle.encoding.specs.Wire.{inside, remainingAt, fixedAt, compactMost, sliceAt, finishAt}
@@ -139,7 +139,7 @@ opened-head allowance s at e big = head-read allowance s at big (opened-read all
 -- ---- a covenant without its directory, from its head and what its items come to
 
 module _ (limit : ℕ) (s : List ℕ) (at : ℕ) {allowance : ℕ} (capped : allowance ≡ min limit 1000009) where
-  pub skim-refused : {k : ℕ} {vs : List ℕ} {p : ℕ} → opening allowance s at (headAt allowance s at) ≡ err k vs p → covenantAt limit s at ≡ err k vs p
+  pub skim-refused : {k : ℕ} {vs : List ℕ} {p : Stand} → opening allowance s at (headAt allowance s at) ≡ err k vs p → covenantAt limit s at ≡ err k vs p
   skim-refused e = covenant-opened limit s at capped ∙ rw e
 
   module _ {head : ℕ × ℕ} {next : ℕ} (e : opening allowance s at (headAt allowance s at) ≡ ok head next) where
@@ -149,7 +149,7 @@ module _ (limit : ℕ) (s : List ℕ) (at : ℕ) {allowance : ℕ} (capped : all
     pub skim-body : covenantAt limit s at ≡ then Items (finished (head .0) at)
     skim-body = covenant-opened limit s at capped ∙ rw e
 
-    skim-stopped : {k : ℕ} {vs : List ℕ} {p : ℕ} → past Items ≡ err k vs p → err k vs p ≡ skimmed (covenantAt limit s at)
+    skim-stopped : {k : ℕ} {vs : List ℕ} {p : Stand} → past Items ≡ err k vs p → err k vs p ≡ skimmed (covenantAt limit s at)
     skim-stopped f = rw (skim-body, then-err Items (finished (head .0) at) f)
 
     skim-ended : {end : ℕ} → past Items ≡ ok tt end → ok (head .0, head .1, end - at) end ≡ skimmed (covenantAt limit s at)
@@ -187,11 +187,11 @@ unfolding wholeCovenant
 whole-long s h = simp (lt-ltb _ _ h)
 
 module _ (s : List ℕ) (h : length s ≤ 1000009) where
-  pub whole-refused : {k : ℕ} {vs : List ℕ} {p : ℕ} → covenantAt 1000009 s 0 ≡ err k vs p → wholeCovenant s ≡ err k vs p
+  pub whole-refused : {k : ℕ} {vs : List ℕ} {p : Stand} → covenantAt 1000009 s 0 ≡ err k vs p → wholeCovenant s ≡ err k vs p
   unfolding wholeCovenant
   whole-refused e = rw (le-ltb _ _ h, e)
 
-  pub whole-trailing : {c : Reading} {p k : ℕ} {vs : List ℕ} {q : ℕ} → covenantAt 1000009 s 0 ≡ ok c p → finishAt s p ≡ err k vs q → wholeCovenant s ≡ err k vs q
+  pub whole-trailing : {c : Reading} {p k : ℕ} {vs : List ℕ} {q : Stand} → covenantAt 1000009 s 0 ≡ ok c p → finishAt s p ≡ err k vs q → wholeCovenant s ≡ err k vs q
   unfolding wholeCovenant
   whole-trailing e f = rw (le-ltb _ _ h, e, f)
 

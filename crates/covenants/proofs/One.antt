@@ -9,12 +9,11 @@ use Rattle.encoding.specs.declared.put.Put.{Put}
 use Rattle.encoding.proofs.Same.{put-same}
 use Rattle.covenants.specs.Kind.{isName, isLinked, isUnspendable}
 use Rattle.refusal.specs.Outcome.{Outcome}
-use Rattle.covenants.specs.Covenant.{Reading, covenantAt, wholeCovenant, skimmed}
-use Rattle.covenants.specs.Written.{sizeAnswer, encodeAnswer, encodeContent}
+use Rattle.covenants.specs.Covenant.{maxEncodedSize, Reading, covenantAt, wholeCovenant, skimmed}
+use Rattle.covenants.specs.Written.{sizeAnswer, encodeAnswer, encodeContent, tableSize, tableAnswer, tableContent}
 use Rattle.covenants.specs.Items.{directoryItem, seekAt, wide, numberIn}
-use Rattle.covenants.specs.Run.{runSaid, runOf, stepOf}
-use Rattle.covenants.specs.Paper.{covenantPaper, directoryOf, decodedPaper, shown, spotPaper, itemU8Paper, itemU32Paper, itemU64Paper, nameHashPaper, shownHash, stepPaper, runEndPaper, runStart}
-use Rattle.covenants.proofs.Same.{covenant-same, decoded-same, spot-same, item-u8-same, item-u32-same, item-u64-same, item-name-hash-same, step-same, run-end-same}
+use Rattle.covenants.specs.Paper.{covenantPaper, directoryOf, decodedPaper, shown, spotPaper, itemU8Paper, itemU32Paper, itemU64Paper, nameHashPaper, shownHash}
+use Rattle.covenants.proofs.Same.{covenant-same, decoded-same, spot-same, item-u8-same, item-u32-same, item-u64-same, item-name-hash-same}
 use Rattle.covenants.specs.declared.ReadCovenant.{ReadCovenant}
 use Rattle.covenants.specs.declared.decode.Decoded.{Decoded}
 use Rattle.covenants.specs.declared.items.Spot.{Spot}
@@ -23,9 +22,6 @@ use Rattle.covenants.specs.declared.items.ItemU8.{ItemU8}
 use Rattle.covenants.specs.declared.items.ItemU32.{ItemU32}
 use Rattle.covenants.specs.declared.items.ItemU64.{ItemU64}
 use Rattle.covenants.specs.declared.items.ItemNameHash.{ItemNameHash}
-use Rattle.covenants.specs.declared.run.Run.{Run}
-use Rattle.covenants.specs.declared.run.Step.{Step}
-use Rattle.covenants.specs.declared.run.RunEnd.{RunEnd}
 
 -- ---- kinds
 
@@ -46,7 +42,7 @@ read-one limit s at e f = covenant-same (one e f)
 pub decode-from-with-limit-one : (limit : ℕ) (s : List ℕ) (at : ℕ) {d d′ : Decoded} → decodedPaper d ≡ shown (covenantAt limit s at) → decodedPaper d′ ≡ shown (covenantAt limit s at) → d ≡ d′
 decode-from-with-limit-one limit s at e f = decoded-same (one e f)
 
-pub decode-from-one : (s : List ℕ) (at : ℕ) {d d′ : Decoded} → decodedPaper d ≡ shown (covenantAt 1000009 s at) → decodedPaper d′ ≡ shown (covenantAt 1000009 s at) → d ≡ d′
+pub decode-from-one : (s : List ℕ) (at : ℕ) {d d′ : Decoded} → decodedPaper d ≡ shown (covenantAt maxEncodedSize s at) → decodedPaper d′ ≡ shown (covenantAt maxEncodedSize s at) → d ≡ d′
 decode-from-one s at e f = decoded-same (one e f)
 
 pub decode-one : (s : List ℕ) {d d′ : Decoded} → decodedPaper d ≡ shown (wholeCovenant s) → decodedPaper d′ ≡ shown (wholeCovenant s) → d ≡ d′
@@ -118,13 +114,14 @@ module _ (source starts lens : List ℕ) (count : ℕ) where
   pub encode-one : (kind : ℕ) (d : List ℕ) {r r′ : Put} {d₁ d₂ : List ℕ} → Says kind d r d₁ → Says kind d r′ d₂ → (r ≡ r′) × (d₁ ≡ d₂)
   encode-one kind d e f = let w = one-each e f in (put-same (w .0), w .1)
 
--- ---- runs
+-- ---- over a table
 
-pub start-one : {r r′ : Run} → r ≡ runStart → r′ ≡ runStart → r ≡ r′
-start-one = one
+module _ (source starts lens : List ℕ) (first count : ℕ) where
+  pub table-size-one : {r r′ : Put} → putPaper r ≡ tableSize source starts lens first count → putPaper r′ ≡ tableSize source starts lens first count → r ≡ r′
+  table-size-one e f = put-same (one e f)
 
-pub next-one : (run : Run) (s : List ℕ) (limit : ℕ) {r r′ : Step} → stepPaper r ≡ stepOf limit s (run .cursor .position) (run .count) → stepPaper r′ ≡ stepOf limit s (run .cursor .position) (run .count) → r ≡ r′
-next-one run s limit e f = step-same (one e f)
+  abbrev SaysFrom : (at kind : ℕ) (d : List ℕ) → Put → List ℕ → Type 0
+  SaysFrom at kind d r d′ = (putPaper r ≡ tableAnswer at kind source starts lens first count d) × (d′ ≡ tableContent at kind source starts lens first count d)
 
-pub read-run-one : (s : List ℕ) (limit : ℕ) {r r′ : RunEnd} → runEndPaper r ≡ runSaid (runOf limit s) → runEndPaper r′ ≡ runSaid (runOf limit s) → r ≡ r′
-read-run-one s limit e f = run-end-same (one e f)
+  pub encode-from-table-one : (at kind : ℕ) (d : List ℕ) {r r′ : Put} {d₁ d₂ : List ℕ} → SaysFrom at kind d r d₁ → SaysFrom at kind d r′ d₂ → (r ≡ r′) × (d₁ ≡ d₂)
+  encode-from-table-one at kind d e f = let w = one-each e f in (put-same (w .0), w .1)

@@ -12,7 +12,7 @@ use Rattle.encoding.specs.Wire.{most, compactMost}
 use Rattle.encoding.proofs.Slice as slice
 use Rattle.encoding.proofs.Fixed.{byte-read, compact-byte}
 use Rattle.covenants.specs.Covenant.{allowed, itemAt, headAt}
-use Rattle.covenants.specs.Filling.{Short, TwoShort}
+use Rattle.covenants.specs.Workers.{ShortAt, TwoShort}
 use Rattle.covenants.specs.Items.{there, seekAt}
 
 -- where none is there, nothing is asked of it
@@ -20,7 +20,7 @@ pub no-item : {X : Type 0} → false ≡ true → X
 no-item e = absurd (let q : _≡_ {A = ℕ} 0 1 = cc in omega arith)
 
 -- one that fits the bytes and the allowance is read
-pub short-item : (allowance start : ℕ) (s : List ℕ) {end at next : ℕ} → length s < 2 ^ 64 → start ≤ at → Short s end at next → next ≤ length s → next ≤ start + allowance
+pub short-item : (allowance start : ℕ) (s : List ℕ) {end at next : ℕ} → length s < 2 ^ 64 → start ≤ at → ShortAt s end at next → next ≤ length s → next ≤ start + allowance
     → itemAt allowance start s at ≡ ok (at + 1, next - (at + 1)) next
 unfolding itemAt allowed compactMost most
 short-item allowance start s {end} {at} {next} big later h fits room =

@@ -1,19 +1,24 @@
 -- An item at a fixed width: what a fixed read of its bytes tells of it.
-use mathlib.Core.Path.{_≡_, refl, ap, sym, _∙_}
-use Prim.Native.Nat.{ℕ, _+_, _^_, _≤_, _<_}
+use mathlib.Core.Path.{_≡_, ap, sym, _∙_}
+use Prim.Native.Nat.{ℕ, _+_, _-_, _^_, _≤_, _<_}
 use native.Mathlib.Omega.{arith}
 use mathlib.Core.List.{List}
+use mathlib.Core.Bool.{Bool, true, false, _&&_}
 use lib.ListN.{length, take, drop}
+use lib.Seq.{take-all}
+use lib.Dec.{leb, eqb}
 use borrow.Author.Tests.{eq-eqb, ne-eqb, le-leb, lt-leb}
-use Rattle.words.specs.Words.{le}
+use Rattle.words.specs.Words.{le, Bytes}
+use Rattle.words.specs.Buffers.{pick}
+use Rattle.words.proofs.Le.{part-long, le-under}
 use Rattle.words.proofs.Cases.{by-order}
-use Rattle.refusal.specs.Outcome.{Outcome, ok, err, then, past, manyAt}
-use Rattle.refusal.proofs.Outcomes.{never, then-ok, then-err, past-ok, then-past}
-use Rattle.encoding.specs.Wire.{bytesAt, fixedAt}
+use Rattle.refusal.specs.Outcome.{Stand, Outcome, ok, err, then, past, manyAt}
+use Rattle.refusal.proofs.Outcomes.{never, then-err, past-ok, then-past}
+use Rattle.encoding.specs.Wire.{bytesAt}
 use Rattle.encoding.proofs.Fixed.{bytes-read}
 use Rattle.encoding.proofs.Slice as slice
 use Rattle.covenants.specs.Covenant.{itemAt}
-use Rattle.covenants.specs.Items.{there, absent, found, spelled, wide, numberIn}
+use Rattle.covenants.specs.Items.{Maybe, there, absent, found, spelled, wide, numberIn}
 use Rattle.covenants.proofs.Moves.{items-move}
 
 module _ (n : ℕ) (s : List ℕ) (start len : ℕ) where
@@ -26,6 +31,19 @@ module _ (n : ℕ) (s : List ℕ) (start len : ℕ) where
   unfolding numberIn
   number-other h = rw (wide-other h)
 
+  -- the item lies within, and its bytes were loaded as a word
+  pub number-loaded : len ≡ n → n ≤ 8 → start + len ≤ length s → {v : ℕ} → v ≡ le (take 8 (take (start + len - start) (drop start s))) → there v ≡ numberIn n s (there (start, len))
+  unfolding numberIn wide
+  number-loaded same few fits e =
+      let k : start + len - start ≡ n = omega arith in
+      let long : length (take n (drop start s)) ≡ n = part-long s start n (omega arith) in
+      let all : take 8 (take n (drop start s)) ≡ take n (drop start s) = take-all 8 (take n (drop start s)) (omega arith) in
+      rw (eq-eqb len n same, le-leb (start + len) (length s) fits) (ap there (e ∙ rw k (ap le all)))
+
+  pub number-outside : len ≡ n → length s < start + len → numberIn n s (there (start, len)) ≡ absent
+  unfolding numberIn wide
+  number-outside same h = rw (eq-eqb len n same, lt-leb (start + len) (length s) h)
+
   module _ (same : len ≡ n) (big : length s < 2 ^ 64) where
     pub wide-read : {bs : List ℕ} {next : ℕ} → bytesAt n s start ≡ ok bs next → wide n s (there (start, len)) ≡ there bs
     unfolding wide
@@ -33,7 +51,7 @@ module _ (n : ℕ) (s : List ℕ) (start len : ℕ) where
         let t = bytes-read n s start big e in
         rw (eq-eqb len n same, le-leb (start + len) (length s) (omega (arith, t .fits)), t .are)
 
-    pub wide-none : {k : ℕ} {vs : List ℕ} {p : ℕ} → bytesAt n s start ≡ err k vs p → wide n s (there (start, len)) ≡ absent
+    pub wide-none : {k : ℕ} {vs : List ℕ} {p : Stand} → bytesAt n s start ≡ err k vs p → wide n s (there (start, len)) ≡ absent
     unfolding wide bytesAt
     wide-none e =
         by-order (length s) (start + n)
@@ -42,21 +60,15 @@ module _ (n : ℕ) (s : List ℕ) (start len : ℕ) where
         let w : bytesAt n s start ≡ ok (take n (drop start s)) (start + n) = rw (slice.within n s start (omega arith) h) in
         absurd (never w e))
 
-    pub number-read : {v next : ℕ} → fixedAt n s start ≡ ok v next → numberIn n s (there (start, len)) ≡ there v
-    unfolding fixedAt numberIn
-    number-read {v} {next} e =
-        let w = then-ok (bytesAt n s start) e in
-        let g = w .3 in
-        let same-v : le (w .0) ≡ v = cc in
-        ap spelled (wide-read (w .2)) ∙ ap there same-v
-
-    pub number-none : {k : ℕ} {vs : List ℕ} {p : ℕ} → fixedAt n s start ≡ err k vs p → numberIn n s (there (start, len)) ≡ absent
-    unfolding fixedAt numberIn
-    number-none {k} {vs} {p} e = go (bytesAt n s start) refl e
-      where
-        go : (o : Outcome (List ℕ)) → bytesAt n s start ≡ o → then o (λ bs next. ok (le bs) next) ≡ err k vs p → spelled (wide n s (there (start, len))) ≡ absent
-        go (ok bs q) f g = absurd (never refl g)
-        go (err k′ vs′ q) f g = ap spelled (wide-none f)
+-- the number of an item of n bytes fits n bytes
+pub number-under : (n : ℕ) (s : List ℕ) (item : Maybe (ℕ × ℕ)) {v : ℕ} → Bytes s → numberIn n s item ≡ there v → v < 256 ^ n
+unfolding numberIn wide
+number-under n s absent b e = absurd (let z : _≡_ {A = ℕ} 0 1 = cc in omega arith)
+number-under n s (there part) {v} b e = go (eqb (part .1) n && leb (part .0 + part .1) (length s)) e
+  where
+    go : (t : Bool) → spelled (pick t (there (take n (drop (part .0) s))) absent) ≡ there v → v < 256 ^ n
+    go true e = let same : le (take n (drop (part .0) s)) ≡ v = cc in rw same at (le-under s (part .0) n n b (omega arith))
+    go false e = absurd (let z : _≡_ {A = ℕ} 0 1 = cc in omega arith)
 
 -- ---- a scan for an item, after those before it were passed
 
@@ -70,7 +82,7 @@ module _ (start : ℕ) (s : List ℕ) (index from : ℕ) where
   pub scan-found : {next : ℕ} {o : Outcome (ℕ × ℕ)} → past Before ≡ ok tt next → itemAt 1000009 start s next ≡ o → found o ≡ found Scanned
   scan-found e f = ap found (sym f ∙ sym (then-past Before (itemAt 1000009 start s) e))
 
-  pub scan-stopped : {k : ℕ} {vs : List ℕ} {p : ℕ} → past Before ≡ err k vs p → absent ≡ found Scanned
+  pub scan-stopped : {k : ℕ} {vs : List ℕ} {p : Stand} → past Before ≡ err k vs p → absent ≡ found Scanned
   scan-stopped e = sym (ap found (then-err Before (λ before next. itemAt 1000009 start s next) e))
 
   pub scan-later : {next : ℕ} → past Before ≡ ok tt next → length s < 2 ^ 64 → from ≤ next

@@ -8,8 +8,7 @@ use Rattle.refusal.proofs.Same.{one-to-one, stop, stop-back}
 use Rattle.encoding.proofs.Same.{cursor}
 use Rattle.covenants.specs.Covenant.{Said}
 use Rattle.covenants.specs.Items.{Maybe, there, absent}
-use Rattle.covenants.specs.Run as run
-use Rattle.covenants.specs.Paper.{covenantPaper, decodedPaper, spotPaper, itemU8Paper, itemU32Paper, itemU64Paper, nameHashPaper, stepPaper, runEndPaper}
+use Rattle.covenants.specs.Paper.{covenantPaper, decodedPaper, spotPaper, itemU8Paper, itemU32Paper, itemU64Paper, nameHashPaper}
 use Rattle.covenants.specs.declared.Covenant.{Covenant}
 use Rattle.covenants.specs.declared.ReadCovenant.{ReadCovenant}
 use Rattle.covenants.specs.declared.decode.Decoded.{Decoded}
@@ -18,8 +17,6 @@ use Rattle.covenants.specs.declared.items.ItemU8.{ItemU8}
 use Rattle.covenants.specs.declared.items.ItemU32.{ItemU32}
 use Rattle.covenants.specs.declared.items.ItemU64.{ItemU64}
 use Rattle.covenants.specs.declared.items.ItemNameHash.{ItemNameHash}
-use Rattle.covenants.specs.declared.run.Step.{Step}
-use Rattle.covenants.specs.declared.run.RunEnd.{RunEnd}
 
 covenant-back : Outcome Said → ReadCovenant
 covenant-back (ok said p) = ReadCovenant.Accepted (said .0) (said .1) (said .2) (cursor p)
@@ -78,28 +75,3 @@ hash-back t = record { found = t .0; hash = record { 0 = t .1 } }
 pub item-name-hash-same : {r r′ : ItemNameHash} → nameHashPaper r ≡ nameHashPaper r′ → r ≡ r′
 unfolding hash-back
 item-name-hash-same = one-to-one nameHashPaper hash-back (λ r. refl)
-
-step-back : run.Advance × ℕ → Step
-step-back t = go (t .0)
-  where
-    go : run.Advance → Step
-    go (run.covenant said next) = Step.Covenant (said .0) (said .1) (said .2) (record { cursor = cursor next; count = t .1 })
-    go (run.last run.ended) = Step.Ended (t .1)
-    go (run.last (run.stopped k vs p)) = Step.Refused (stop k vs p) (t .1)
-
-pub step-same : {r r′ : Step} → stepPaper r ≡ stepPaper r′ → r ≡ r′
-unfolding step-back
-step-same =
-    one-to-one stepPaper step-back
-    (elim [ Step.Covenant kind count used r ↦ refl | Step.Ended n ↦ refl | Step.Refused s n ↦ ap (λ x. Step.Refused x n) (stop-back s) ])
-
-run-end-back : run.End × ℕ → RunEnd
-run-end-back t = go (t .0)
-  where
-    go : run.End → RunEnd
-    go run.ended = RunEnd.Ended (t .1)
-    go (run.stopped k vs p) = RunEnd.Refused (stop k vs p) (t .1)
-
-pub run-end-same : {r r′ : RunEnd} → runEndPaper r ≡ runEndPaper r′ → r ≡ r′
-unfolding run-end-back
-run-end-same = one-to-one runEndPaper run-end-back (elim [ RunEnd.Ended n ↦ refl | RunEnd.Refused s n ↦ ap (λ x. RunEnd.Refused x n) (stop-back s) ])

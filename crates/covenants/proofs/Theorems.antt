@@ -1,24 +1,32 @@
 -- The theorems of specs/Theorems.antt.
-use mathlib.Core.Path.{_≡_, refl, ap, ap₂, sym, _∙_}
-use Prim.Native.Nat.{ℕ, _+_, _-_, _≤_}
+use mathlib.Core.Path.{_≡_, refl, ap, sym, _∙_}
+use Prim.Native.Nat.{ℕ, _+_, _-_, _≤_, min}
 use native.Mathlib.Omega.{arith}
-use mathlib.Core.List.{List, [], _∷_, _++_, append-assoc, append-nil}
-use lib.ListN.{length, take, drop, length-append, length-map, take-append-drop}
-use lib.Seq.{take-at, take-append-seam, take-append-le, drop-append-seam}
+use mathlib.Core.List.{List, _++_}
+use lib.ListN.{length, take, drop, length-map}
+use lib.Seq.{take-at, drop-at}
+use borrow.Author.Tests.{le-ltb}
 use Rattle.words.specs.Words.{Bytes}
-use Rattle.words.proofs.Cases.{by-order}
-use Rattle.refusal.specs.Outcome.{ok}
+use Rattle.words.specs.Buffers.{over}
+use Rattle.refusal.specs.Outcome.{ok, wrote}
+use Rattle.refusal.proofs.Outcomes.{next-ok}
+use Rattle.encoding.specs.Wire.{compactSize}
 use Rattle.encoding.specs.Theorems.{Lent}
+use Rattle.encoding.proofs.Fixed.{fixed-under}
+use Rattle.encoding.proofs.Compact.{put-room}
 use Rattle.encoding.proofs.Back.{Stands, stands-here, stands-next}
 use Rattle.covenants.specs.Covenant.{Reading, covenantAt, contents, bytesIn}
-use Rattle.covenants.specs.Written.{covenantBytes, covenantSize, parts}
-use Rattle.covenants.specs.Theorems.{Meant, written, Writable, AcceptedIsWritable, runBytes, CovenantReadsBack, AcceptedIsWritten, UsedIsSize, SizeIsLength, RunHasOneReading, FindFindsItem, DirectoryHoldsItem, StepsAreTheRun}
-use Rattle.covenants.proofs.Moves.{covenant-accepted, covenant-moves}
-use Rattle.covenants.proofs.Checks.{length-parts, covenant-long, checks-passed}
+use Rattle.covenants.specs.Written.{covenantBytes, itemsSize, covenantSize, parts, Held, sizeAnswer, directoryBytes, encodeAnswer, encodeContent}
+use Rattle.covenants.specs.Paper.{listed, directoryOf}
+use Rattle.covenants.specs.Workers.{starts-of, lens-of}
+use Rattle.covenants.specs.Theorems.{Meant, written, Writable, AcceptedIsWritable, WritableIsAccepted, EncodeWrites, DirectoryIsTable, WrittenAgain, CovenantReadsBack, AcceptedIsWritten, UsedIsSize, SizeIsLength, AllowanceGrows, FindFindsItem, DirectoryHoldsItem}
+use Rattle.covenants.proofs.Moves.{head-read, covenant-accepted, covenant-moves}
+use Rattle.covenants.proofs.Checks.{length-parts, covenant-long, checks-passed, size-is, answer-is, content-is}
+use Rattle.covenants.proofs.Writable.{held-passes, sizes-pass, written-long, parts-listed, items-lie}
 use Rattle.covenants.proofs.Back.{Again, covenant-back}
 use Rattle.covenants.proofs.Again.{found-long, found-covenant}
 use Rattle.covenants.proofs.Agree.{seek-finds, directory-holds}
-use Rattle.covenants.proofs.Steps.{run-last, run-more}
+use Rattle.covenants.proofs.Grows.{covenant-grows, at-largest}
 
 pub size-is-length : SizeIsLength
 size-is-length c = covenant-long (c .kind) (c .items)
@@ -29,6 +37,34 @@ accepted-is-writable kind source starts lens count size small e =
     let ps = parts starts lens 0 count in
     let many : length (contents source ps) ≡ count = length-map ps (bytesIn source) ∙ length-parts starts lens 0 count in
     record { kind = small; count = omega (arith, many, p .few); short = p .short; size = omega (arith, p .size kind, p .most) }
+
+pub writable-is-accepted : WritableIsAccepted
+unfolding sizeAnswer covenantSize
+writable-is-accepted c source starts lens w means held =
+    let n : ℕ = length (c .items) in
+    let ps : List (ℕ × ℕ) = parts starts lens 0 n in
+    let size : length (written c) ≡ 1 + compactSize n + itemsSize (contents source ps) = size-is-length c ∙ ap (λ xs. 1 + compactSize n + itemsSize xs) (sym means) in
+    let e = sizes-pass source (1 + compactSize n) ps held (rw means (w .short)) (omega (arith, w .size)) in
+    rw (le-ltb 1000 n (w .count), held-passes (length source) 0 ps held) (e ∙ ap wrote (sym size))
+
+-- what the writer put stands at the buffer's start, and the rest of the buffer is as it was
+pub encode-writes : EncodeWrites
+unfolding encodeAnswer encodeContent over
+encode-writes kind source starts lens count d n small e =
+    let bs : List ℕ = directoryBytes kind source starts lens count in
+    let w = next-ok (sizeAnswer source starts lens count) e in
+    let long : length bs ≡ n = written-long 0 bs d (w .2) in
+    let end : 0 + length bs ≡ n = omega arith in
+    record {
+      holds = rw e (take-at bs (drop (0 + length bs) d) n long);
+      size = sym long;
+      rest = rw e (drop-at bs (drop (0 + length bs) d) n long ∙ ap (λ k. drop k d) end);
+      writable = accepted-is-writable kind source starts lens count (w .0) small (w .1);
+    }
+
+pub directory-is-table : DirectoryIsTable
+directory-is-table kind source starts lens count d p q =
+    record { size = size-is source starts lens count p q; answer = answer-is source starts lens count p q kind d; content = content-is source starts lens count p q kind d }
 
 -- a covenant that stands somewhere is read there
 read-here : (s : List ℕ) (at : ℕ) (c : Meant) (rest : List ℕ) → Writable c → Lent s → Stands s at (written c) rest → Again s (c .kind) (c .items) at
@@ -68,54 +104,55 @@ used-is-size limit s at r end small big e =
     let used = covenant-accepted limit s at e .used in
     (used ∙ sym (n .0) ∙ covenant-long (r .kind) (contents s (r .items)), omega arith)
 
--- ---- a run has one reading
+-- a covenant that was read is writable
+accepted-writable : (limit : ℕ) (s : List ℕ) (at : ℕ) {r : Reading} {end : ℕ} → Bytes s → Lent s → covenantAt limit s at ≡ ok r end
+    → Writable (record { kind = r .kind; items = contents s (r .items) }) × Held (length s) (r .items)
+accepted-writable limit s at {r} {end} small big e =
+    let a = covenant-accepted limit s at e in
+    let h = head-read (min limit 1000009) s at (omega arith) (a .head) in
+    let i = items-lie (min limit 1000009) at s (omega arith) (length (r .items)) (a .first) (a .items) in
+    let n = accepted-long limit s at small big e in
+    let most : end - at ≤ min limit 1000009 = i .spent (omega (arith, h .later)) (h .spent) in
+    let many : length (contents s (r .items)) ≡ length (r .items) = length-map (r .items) (bytesIn s) in
+    (record { kind = fixed-under 1 s at small (h .kind); count = rw many (h .few); short = i .short; size = omega (arith, n .0) }, i .held)
 
--- of two covenants, each with what follows it, that are the same bytes: the shorter one is the other
-begins : (c d : Meant) (r r′ : List ℕ) → Writable c → Writable d → length (written c) ≤ length (written d) → written c ++ r ≡ written d ++ r′ → c ≡ d
-begins c d r r′ wc wd h e =
-    let n : ℕ = length (written c) in
-    let s : List ℕ = written d in
-    let front : written c ≡ take n s = sym (take-append-seam (written c) r) ∙ ap (take n) e ∙ take-append-le n s r′ h in
-    let split : s ≡ written c ++ drop n s = sym (take-append-drop n s) ∙ ap (λ x. x ++ drop n s) (sym front) in
-    let big : Lent s = omega (arith, wd .size) in
-    let a = read-here s 0 c (drop n s) wc big (omega arith, split) in
-    let b = read-here s 0 d [] wd big (omega arith, sym (append-nil s)) in
-    let both : ok (a .reading) (0 + covenantSize (c .items)) ≡ ok (b .reading) (0 + covenantSize (d .items)) = sym (a .reads) ∙ b .reads in
-    let same : a .reading ≡ b .reading = cc in
-    let kind : c .kind ≡ d .kind = sym (a .same-kind) ∙ ap (λ (x : Reading). x .kind) same ∙ b .same-kind in
-    let items : c .items ≡ d .items = sym (a .same-items) ∙ ap (λ (x : Reading). contents s (x .items)) same ∙ b .same-items in
-    ap₂ (λ k xs. record { kind = k; items = xs }) kind items
+-- the writer's answer where there is room
+written-room : (kind : ℕ) (source starts lens : List ℕ) (count : ℕ) (d : List ℕ) {n : ℕ} → sizeAnswer source starts lens count ≡ wrote n → length (directoryBytes kind source starts lens count) ≡ n
+    → n ≤ length d → encodeAnswer kind source starts lens count d ≡ wrote n
+unfolding encodeAnswer
+written-room kind source starts lens count d {n} e long h = rw e (sym (put-room 0 (directoryBytes kind source starts lens count) d n long (omega arith) refl .0))
 
-same-first : (c d : Meant) (r r′ : List ℕ) → Writable c → Writable d → written c ++ r ≡ written d ++ r′ → c ≡ d
-same-first c d r r′ wc wd e =
-    by-order (length (written d)) (length (written c))
-    (λ h. sym (begins d c r′ r wd wc (omega arith) (sym e)))
-    (λ h. begins c d r r′ wc wd h e)
+pub written-again : WrittenAgain
+unfolding directoryOf
+written-again limit s at r end small big e =
+    let xs : List (ℕ × ℕ) = r .items in
+    let starts : List ℕ = listed (starts-of xs) in
+    let lens : List ℕ = listed (lens-of xs) in
+    let count : ℕ = length xs in
+    let same : parts starts lens 0 count ≡ xs = parts-listed xs in
+    let many : length (contents s xs) ≡ count = length-map xs (bytesIn s) in
+    let w = accepted-writable limit s at small big e in
+    let used = covenant-accepted limit s at e .used in
+    let long : length (directoryBytes (r .kind) s starts lens count) ≡ r .used = rw same (accepted-long limit s at small big e .0 ∙ sym used) in
+    let means : directoryBytes (r .kind) s starts lens count ≡ take (r .used) (drop at s) = rw (same, used) (accepted-is-written limit s at r end small big e) in
+    let size : sizeAnswer s starts lens count ≡ wrote (r .used) =
+    (rw many at (writable-is-accepted (record { kind = r .kind; items = contents s xs }) s starts lens (w .0) (rw (many, same)) (rw (many, same) (w .1))))
+    ∙ ap wrote ((rw same at long)) in
+    let answer : (d : List ℕ) → r .used ≤ length d → encodeAnswer (r .kind) s starts lens count d ≡ wrote (r .used) = λ d h. written-room (r .kind) s starts lens count d size long h in
+    record {
+      size = size;
+      means = means;
+      answer = answer;
+      holds = λ d h. encode-writes (r .kind) s starts lens count d (r .used) (w .0 .kind) (answer d h) .holds ∙ means;
+    }
 
-pub run-has-one-reading : RunHasOneReading
-unfolding runBytes covenantSize
-run-has-one-reading [] ds rest wc wd e = (ds, refl)
-run-has-one-reading (c ∷ cs) [] rest wc wd e =
-    absurd (omega (arith, ap length e, length-append (written c ++ runBytes cs) rest, length-append (written c) (runBytes cs), size-is-length c))
-run-has-one-reading (c ∷ cs) (d ∷ ds) rest wc wd e =
-    let e′ : written c ++ (runBytes cs ++ rest) ≡ written d ++ runBytes ds = sym (append-assoc (written c) (runBytes cs) rest) ∙ e in
-    let same = same-first c d (runBytes cs ++ rest) (runBytes ds) (wc .0) (wd .0) e′ in
-    let f : written c ++ (runBytes cs ++ rest) ≡ written c ++ runBytes ds = e′ ∙ ap (λ x. written x ++ runBytes ds) (sym same) in
-    let tail : runBytes cs ++ rest ≡ runBytes ds =
-    sym (drop-append-seam (written c) (runBytes cs ++ rest)) ∙ ap (drop (length (written c))) f ∙ drop-append-seam (written c) (runBytes ds) in
-    let ih = run-has-one-reading cs ds rest (wc .1) (wd .1) tail in
-    (ih .0, ap₂ (λ x xs. x ∷ xs) (sym same) (ih .1))
+-- ---- items
 
--- ---- items and steps
+pub allowance-grows : AllowanceGrows
+allowance-grows limit limit′ s at r end h e = covenant-grows limit limit′ s at h e
 
 pub find-finds-item : FindFindsItem
-find-finds-item s at index r end e = seek-finds s at index e
+find-finds-item limit s at index r end e = seek-finds s at index (at-largest limit s at e)
 
 pub directory-holds-item : DirectoryHoldsItem
 directory-holds-item limit s at index r end big e = directory-holds limit s at index big e
-
-pub steps-are-the-run : StepsAreTheRun
-steps-are-the-run n limit s at = record {
-  ends = run-last n limit s at;
-  goes = λ e. let w = run-more n limit s at e in (w .first, w .says, w .run);
-}

@@ -7,6 +7,17 @@ use Rattle.words.specs.Buffers.{pick}
 use Rattle.refusal.specs.Outcome.{Outcome, ok, err, then, manyAt}
 use Rattle.encoding.specs.Wire.{inside, sliceAt, fixedAt, compactMost, finishAt}
 
+-- "compact count, at most 1,000, and each item a compact length, at most 1,000,000 (2 when read), then its bytes;
+-- 1,000,009 bytes in all"
+abbrev pub maxItems : ℕ
+maxItems = 1000
+
+abbrev pub maxItemSize : ℕ
+maxItemSize = 1000000
+
+abbrev pub maxEncodedSize : ℕ
+maxEncodedSize = 1000009
+
 -- "After the count, and after each item's length, more than L consumed gives 5 {consumed, L}"; what is left of L
 unfoldable pub allowed : ℕ → ℕ → ℕ → Outcome ℕ
 allowed allowance start at =
@@ -17,7 +28,7 @@ allowed allowance start at =
 unfoldable pub itemAt : ℕ → ℕ → List ℕ → ℕ → Outcome (ℕ × ℕ)
 unfolding allowed
 itemAt allowance start s at =
-    then (compactMost 1000000 s at)
+    then (compactMost maxItemSize s at)
     (λ size next.
     then (allowed allowance start next)
     (λ left next.
@@ -29,7 +40,7 @@ unfolding allowed
 headAt allowance s at =
     then (fixedAt 1 s at)
     (λ kind next.
-    then (compactMost 1000 s next)
+    then (compactMost maxItems s next)
     (λ count next. then (allowed allowance at next) (λ left next. ok (kind, count) next)))
 
 -- a covenant that was read: its kind, where its items stand, and "The bytes used up from the allowance"
@@ -53,13 +64,13 @@ unfolding inside
 opening allowance s at body = inside s at (pick (ltb allowance 2) (err 5 (2 ∷ allowance ∷ []) at) body)
 
 unfoldable pub covenantAt : ℕ → List ℕ → ℕ → Outcome Reading
-covenantAt limit s at = opening (min limit 1000009) s at (bodyAt (min limit 1000009) s at)
+covenantAt limit s at = opening (min limit maxEncodedSize) s at (bodyAt (min limit maxEncodedSize) s at)
 
 -- "`decode` refuses longer input by 5 first, and trailing bytes last"; the position is "0 before a decoder is made"
 unfoldable pub wholeCovenant : List ℕ → Outcome Reading
 wholeCovenant s =
-    pick (ltb 1000009 (length s)) (err 5 (length s ∷ 1000009 ∷ []) 0)
-    (then (covenantAt 1000009 s 0) (λ c next. then (finishAt s next) (λ nothing next. ok c next)))
+    pick (ltb maxEncodedSize (length s)) (err 5 (length s ∷ maxEncodedSize ∷ []) 0)
+    (then (covenantAt maxEncodedSize s 0) (λ c next. then (finishAt s next) (λ nothing next. ok c next)))
 
 -- kind, count and bytes used up
 abbrev pub Said : Type 0

@@ -7,7 +7,7 @@ use lib.Dec.{ltb, leb, eqb}
 use Rattle.words.specs.Words.{le}
 use Rattle.words.specs.Buffers.{pick}
 use Rattle.refusal.specs.Outcome.{Outcome, ok, err, then, manyAt}
-use Rattle.covenants.specs.Covenant.{itemAt, headAt}
+use Rattle.covenants.specs.Covenant.{maxItems, maxEncodedSize, itemAt, headAt}
 
 -- something that may be absent
 pub data Maybe (A : Type 0) : Type 0 where
@@ -17,7 +17,7 @@ pub data Maybe (A : Type 0) : Type 0 where
 -- "An item past the count or the 1,000th, or outside the source, is absent": the item of a directory, by its start and length
 unfoldable pub directoryItem : List ℕ → List ℕ → List ℕ → ℕ → ℕ → Maybe (ℕ × ℕ)
 directoryItem source starts lens count index =
-    pick (ltb index count && ltb index 1000 && leb (getD starts index 0 + getD lens index 0) (length source))
+    pick (ltb index count && ltb index maxItems && leb (getD starts index 0 + getD lens index 0) (length source))
     (there (getD starts index 0, getD lens index 0)) absent
 
 -- the n-th of a list of places
@@ -41,8 +41,8 @@ counted (err k vs p) index f = absent
 -- the item of the covenant that stands at at, under 1,000,009: its head and the items before this one are read, and nothing after it is
 unfoldable pub seekAt : List ℕ → ℕ → ℕ → Maybe (ℕ × ℕ)
 seekAt s at index =
-    counted (headAt 1000009 s at) index
-    (λ first. found (then (manyAt (itemAt 1000009 at s) index first) (λ before next. itemAt 1000009 at s next)))
+    counted (headAt maxEncodedSize s at) index
+    (λ first. found (then (manyAt (itemAt maxEncodedSize at s) index first) (λ before next. itemAt maxEncodedSize at s next)))
 
 -- ---- the width
 

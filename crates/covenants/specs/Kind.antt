@@ -1,17 +1,53 @@
--- Covenant kinds: "A covenant kind is its byte" (document 01). The names are the Rust's `CovenantKind`: 0 None, 1 Claim, 2 Open, 3 Bid, 4 Reveal,
--- 5 Redeem, 6 Register, 7 Update, 8 Renew, 9 Transfer, 10 Finalize, 11 Revoke; 12 to 255 are unknown.
+-- Covenant kinds: "A covenant kind is its byte" (document 01). The names are the Rust's `CovenantKind`; 12 to 255 are
+-- unknown.
 use Prim.Native.Nat.{ℕ}
 use mathlib.Core.Bool.{Bool, _&&_}
 use lib.Dec.{leb, eqb}
 
+abbrev pub None : ℕ
+None = 0
+
+abbrev pub Claim : ℕ
+Claim = 1
+
+abbrev pub Open : ℕ
+Open = 2
+
+abbrev pub Bid : ℕ
+Bid = 3
+
+abbrev pub Reveal : ℕ
+Reveal = 4
+
+abbrev pub Redeem : ℕ
+Redeem = 5
+
+abbrev pub Register : ℕ
+Register = 6
+
+abbrev pub Update : ℕ
+Update = 7
+
+abbrev pub Renew : ℕ
+Renew = 8
+
+abbrev pub Transfer : ℕ
+Transfer = 9
+
+abbrev pub Finalize : ℕ
+Finalize = 10
+
+abbrev pub Revoke : ℕ
+Revoke = 11
+
 -- a known kind but None
 abbrev pub isName : ℕ → Bool
-isName kind = leb 1 kind && leb kind 11
+isName kind = leb Claim kind && leb kind Revoke
 
 -- Reveal to Revoke
 abbrev pub isLinked : ℕ → Bool
-isLinked kind = leb 4 kind && leb kind 11
+isLinked kind = leb Reveal kind && leb kind Revoke
 
 -- Revoke
 abbrev pub isUnspendable : ℕ → Bool
-isUnspendable kind = eqb kind 11
+isUnspendable kind = eqb kind Revoke

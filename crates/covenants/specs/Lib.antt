@@ -2,7 +2,6 @@ pub mod Kind
 pub mod Covenant
 pub mod Written
 pub mod Items
-pub mod Run
 pub mod Paper
-pub mod Filling
+pub mod Workers
 pub mod Theorems

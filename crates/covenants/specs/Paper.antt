@@ -5,17 +5,13 @@ use mathlib.Core.List.{List, [], map}
 use lib.ListN.{length, replicate}
 use Rattle.words.specs.Buffers.{padded}
 use Rattle.refusal.specs.Outcome.{Outcome, ok, err}
-use Rattle.refusal.specs.Paper.{numberOf, carried, stopped}
-use Rattle.covenants.specs.Covenant.{Reading, Said, skimmed}
+use Rattle.refusal.specs.Paper.{stopped}
+use Rattle.covenants.specs.Covenant.{maxItems, Reading, Said, skimmed}
 use Rattle.covenants.specs.Items.{Maybe, there, absent}
-use Rattle.covenants.specs.Run as run
 use Rattle.covenants.specs.declared.Covenant.{Covenant}
 use Rattle.covenants.specs.declared.ReadCovenant.{ReadCovenant}
 use Rattle.covenants.specs.declared.ReadHead.{ReadHead}
 use Rattle.covenants.specs.declared.decode.Decoded.{Decoded}
-use Rattle.covenants.specs.declared.run.Step.{Step}
-use Rattle.covenants.specs.declared.run.RunEnd.{RunEnd}
-use Rattle.covenants.specs.declared.run.Run.{Run}
 use Rattle.covenants.specs.declared.items.Spot.{Spot}
 use Rattle.covenants.specs.declared.items.ItemU8.{ItemU8}
 use Rattle.covenants.specs.declared.items.ItemU32.{ItemU32}
@@ -30,9 +26,9 @@ abbrev pub headPaper : ReadHead → Outcome (ℕ × ℕ)
 headPaper (ReadHead.Head kind count next) = ok (kind, count) (next .position)
 headPaper (ReadHead.Refused s) = stopped s
 
--- a directory of 1,000 numbers: those that there are, and zeros
+-- one of the directory's two arrays: the numbers that there are, and zeros
 abbrev pub listed : List ℕ → List ℕ
-listed xs = padded 1000 xs
+listed xs = padded maxItems xs
 
 -- the covenant of a reading; "Unused parts of an answer are zeros"
 unfoldable pub directoryOf : Outcome Reading → Covenant
@@ -76,20 +72,3 @@ nameHashPaper r = (r .found, r .hash .0)
 abbrev pub shownHash : Maybe (List ℕ) → Bool × List ℕ
 shownHash (there bs) = (true, bs)
 shownHash absent = (false, replicate 32 0)
-
--- ---- runs
-
--- what a step says, and how many covenants there are after it
-abbrev pub stepPaper : Step → run.Advance × ℕ
-stepPaper (Step.Covenant kind count used r) = (run.covenant (kind, count, used) (r .cursor .position), r .count)
-stepPaper (Step.Ended count) = (run.last run.ended, count)
-stepPaper (Step.Refused s count) = (run.last (run.stopped (numberOf (s .refusal)) (carried (s .refusal)) (s .position)), count)
-
--- how a run ended, and how many covenants it had
-abbrev pub runEndPaper : RunEnd → run.End × ℕ
-runEndPaper (RunEnd.Ended count) = (run.ended, count)
-runEndPaper (RunEnd.Refused s count) = (run.stopped (numberOf (s .refusal)) (carried (s .refusal)) (s .position), count)
-
--- a run before its first covenant
-abbrev pub runStart : Run
-runStart = record { cursor = record { position = 0 }; count = 0 }

@@ -4,8 +4,8 @@ use crate::ReadCovenant;
 use crate::ReadHead;
 use crate::capped;
 use crate::completed;
-use crate::item;
 use crate::opened;
+use crate::read_item;
 use crate::short::short_entries;
 use crate::too_large;
 use encoding::read::Cursor;
@@ -16,9 +16,9 @@ ghost use mathlib.Core.List.{[]};
 ghost use Prim.Native.Nat.{_≤_};
 ghost use Rattle.refusal.specs.Outcome.{Outcome, past, manyAt, listOf};
 ghost use Rattle.encoding.specs.Paper.{movedPaper};
-ghost use Rattle.covenants.specs.Covenant.{Reading, itemAt, covenantAt, wholeCovenant, skimmed};
+ghost use Rattle.covenants.specs.Covenant.{maxItems, maxEncodedSize, Reading, itemAt, covenantAt, wholeCovenant, skimmed};
 ghost use Rattle.covenants.specs.Paper.{covenantPaper, listed, directoryOf, decodedPaper, shown};
-ghost use Rattle.covenants.specs.Filling.{starts-of, lens-of};
+ghost use Rattle.covenants.specs.Workers.{starts-of, lens-of};
 
 // The answer of a decoder: what was read, and the covenant, all zeros where it was refused.
 pub struct Decoded {
@@ -44,7 +44,7 @@ fn fill(
     starts: &mut [usize; 1000],
     lens: &mut [usize; 1000],
 ) -> Moved
-    requires { ⌜ (start ≤ from .position) × (count ≤ 1000) ⌝ }
+    requires { ⌜ (start ≤ from .position) × (count ≤ maxItems) ⌝ }
     ensures { λ r. ⌜ movedPaper r ≡ past (manyAt (itemAt allowance start (now (s .entry))) count (from .position)) ⌝ }
     ensures { λ _. ⌜ now (starts .exit) ≡ listed (starts-of (listOf (manyAt (itemAt allowance start (now (s .entry))) count (from .position)))) ⌝ }
     ensures { λ _. ⌜ now (lens .exit) ≡ listed (lens-of (listOf (manyAt (itemAt allowance start (now (s .entry))) count (from .position)))) ⌝ }
@@ -57,7 +57,7 @@ fn fill(
         if count <= short.passed {
             return Moved::To(Cursor { position: short.at });
         }
-        match item(Cursor { position: short.at }, s, start, allowance) {
+        match read_item(Cursor { position: short.at }, s, start, allowance) {
             ReadSpan::Span {
                 start: first,
                 len,
@@ -145,7 +145,7 @@ impl Covenant {
     }
 
     pub fn decode_from(c: Cursor, s: &[u8]) -> Decoded
-        ensures { λ d. ⌜ decodedPaper d ≡ shown (covenantAt 1000009 (now (s .entry)) (c .position)) ⌝ }
+        ensures { λ d. ⌜ decodedPaper d ≡ shown (covenantAt maxEncodedSize (now (s .entry)) (c .position)) ⌝ }
     {
         Covenant::decode_from_with_limit(c, s, Covenant::MAX_ENCODED_SIZE)
     }

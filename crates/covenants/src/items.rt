@@ -3,21 +3,20 @@ use crate::Covenant;
 use crate::ReadHead;
 use crate::head;
 use crate::pass_items;
+use crate::read_item;
 use encoding::read::Cursor;
 use encoding::read::Moved;
 use encoding::read::ReadSpan;
-use encoding::read::ReadU8;
-use encoding::read::ReadU32;
-use encoding::read::ReadU64;
 use primitives::NameHash;
+use words::load::load_u64;
 use words::store::has_room;
 ghost use mathlib.Core.Path.{_≡_};
 ghost use mathlib.Core.Bool.{true, false};
 ghost use Prim.Native.Nat.{_≤_, _<_};
 ghost use lib.ListN.{length, getD};
 ghost use Rattle.refusal.specs.Outcome.{then, manyAt};
-ghost use Rattle.covenants.specs.Covenant.{itemAt};
-ghost use Rattle.covenants.specs.Filling.{TwoShort};
+ghost use Rattle.covenants.specs.Covenant.{maxEncodedSize, itemAt};
+ghost use Rattle.covenants.specs.Workers.{TwoShort};
 ghost use Rattle.covenants.specs.Items.{absent, found, directoryItem, seekAt, wide, numberIn};
 ghost use Rattle.covenants.specs.Paper.{spotPaper, itemU8Paper, itemU32Paper, itemU64Paper, nameHashPaper, shownHash};
 
@@ -63,60 +62,50 @@ fn no_hash() -> ItemNameHash
     }
 }
 
+// The number that an item of so many bytes spells, at most eight, if it is as wide and lies within the bytes.
+fn number(item: Spot, s: &[u8], width: usize) -> ItemU64
+    requires { ⌜ width ≤ 8 ⌝ }
+    ensures { λ r. ⌜ itemU64Paper r ≡ numberIn width (now (s .entry)) (spotPaper item) ⌝ }
+{
+    match item {
+        Spot::Part { start, len } => {
+            if len != width {
+                return ItemU64::Absent;
+            }
+            if has_room(s.len(), start, len) {
+                let end = start + len;
+                return ItemU64::Value(load_u64(&s[start..end], 0));
+            }
+            ItemU64::Absent
+        }
+        Spot::Absent => ItemU64::Absent,
+    }
+}
+
 // An item answers as a number or a hash only where it is as wide and lies within the bytes.
 impl Spot {
     pub fn as_u8(self, s: &[u8]) -> ItemU8
         ensures { λ r. ⌜ itemU8Paper r ≡ numberIn 1 (now (s .entry)) (spotPaper self) ⌝ }
     {
-        match self {
-            Spot::Part { start, len } => {
-                if len != 1 {
-                    return ItemU8::Absent;
-                }
-                let place = Cursor { position: start };
-                match place.read_u8(s) {
-                    ReadU8::Value(v, _) => ItemU8::Value(v),
-                    ReadU8::Refused(_) => ItemU8::Absent,
-                }
-            }
-            Spot::Absent => ItemU8::Absent,
+        match number(self, s, 1) {
+            ItemU64::Value(v) => ItemU8::Value(v as u8),
+            ItemU64::Absent => ItemU8::Absent,
         }
     }
 
     pub fn as_u32(self, s: &[u8]) -> ItemU32
         ensures { λ r. ⌜ itemU32Paper r ≡ numberIn 4 (now (s .entry)) (spotPaper self) ⌝ }
     {
-        match self {
-            Spot::Part { start, len } => {
-                if len != 4 {
-                    return ItemU32::Absent;
-                }
-                let place = Cursor { position: start };
-                match place.read_u32_le(s) {
-                    ReadU32::Value(v, _) => ItemU32::Value(v),
-                    ReadU32::Refused(_) => ItemU32::Absent,
-                }
-            }
-            Spot::Absent => ItemU32::Absent,
+        match number(self, s, 4) {
+            ItemU64::Value(v) => ItemU32::Value(v as u32),
+            ItemU64::Absent => ItemU32::Absent,
         }
     }
 
     pub fn as_u64(self, s: &[u8]) -> ItemU64
         ensures { λ r. ⌜ itemU64Paper r ≡ numberIn 8 (now (s .entry)) (spotPaper self) ⌝ }
     {
-        match self {
-            Spot::Part { start, len } => {
-                if len != 8 {
-                    return ItemU64::Absent;
-                }
-                let place = Cursor { position: start };
-                match place.read_u64_le(s) {
-                    ReadU64::Value(v, _) => ItemU64::Value(v),
-                    ReadU64::Refused(_) => ItemU64::Absent,
-                }
-            }
-            Spot::Absent => ItemU64::Absent,
-        }
+        number(self, s, 8)
     }
 
     pub fn as_name_hash(self, s: &[u8]) -> ItemNameHash
@@ -221,10 +210,10 @@ pub fn item_name_hash<'a>(
 // The item with `index` items before it, of a covenant that began at `start` and whose first item stands at `from`.
 fn scan(from: Cursor, s: &[u8], start: usize, index: usize) -> Spot
     requires { ⌜ start ≤ from .position ⌝ }
-    ensures { λ r. ⌜ spotPaper r ≡ found (then (manyAt (itemAt 1000009 start (now (s .entry))) index (from .position)) (λ before next. itemAt 1000009 start (now (s .entry)) next)) ⌝ }
+    ensures { λ r. ⌜ spotPaper r ≡ found (then (manyAt (itemAt maxEncodedSize start (now (s .entry))) index (from .position)) (λ before next. itemAt maxEncodedSize start (now (s .entry)) next)) ⌝ }
 {
     match pass_items(from, s, start, Covenant::MAX_ENCODED_SIZE, index) {
-        Moved::To(next) => match crate::item(next, s, start, Covenant::MAX_ENCODED_SIZE) {
+        Moved::To(next) => match read_item(next, s, start, Covenant::MAX_ENCODED_SIZE) {
             ReadSpan::Span {
                 start: at,
                 len,
@@ -256,6 +245,7 @@ pub fn find(c: Cursor, s: &[u8], index: usize) -> Spot
 }
 
 // Items 0 and 1 of the covenant that stands at c, by a scan for each.
+// `&s[..]` hands on the pointer and the length, so that no scan waits for a store.
 fn two_scans(c: Cursor, s: &[u8]) -> Two
     ensures { λ r. ⌜ (spotPaper (r .first) ≡ seekAt (now (s .entry)) (c .position) 0) × (spotPaper (r .second) ≡ seekAt (now (s .entry)) (c .position) 1) ⌝ }
 {
@@ -274,6 +264,7 @@ fn size_at(s: &[u8], at: usize) -> usize
 }
 
 // Whether a covenant has two items at least, both there, and its count and their lengths are one byte each.
+// The fast path of `find_two`: it spares both scans where links asks for the name and the start of a covenant.
 fn two_short(s: &[u8], at: usize) -> bool
     ensures { λ r. ⌜ (r ≡ true → TwoShort (now (s .entry)) at) ⌝ }
 {
@@ -306,7 +297,7 @@ fn two_short(s: &[u8], at: usize) -> bool
     second < length - next
 }
 
-// Items 0 and 1 of the covenant that stands at c. Mostly no scan is needed.
+// Items 0 and 1 of the covenant that stands at c. Mostly `two_short` holds, and no scan is needed.
 pub fn find_two(c: Cursor, s: &[u8]) -> Two
     ensures { λ r. ⌜ (spotPaper (r .first) ≡ seekAt (now (s .entry)) (c .position) 0) × (spotPaper (r .second) ≡ seekAt (now (s .entry)) (c .position) 1) ⌝ }
 {

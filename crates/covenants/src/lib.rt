@@ -2,7 +2,6 @@
 pub mod decode;
 pub mod items;
 pub mod kind;
-pub mod run;
 mod short;
 pub mod write;
 
@@ -17,9 +16,10 @@ use refusal::Stop;
 ghost use mathlib.Core.Path.{_≡_};
 ghost use Prim.Native.Nat.{ℕ, _+_, _-_, _≤_, min};
 ghost use Rattle.refusal.specs.Outcome.{ok, then, past, manyAt};
+ghost use Rattle.refusal.specs.Paper.{standing};
 ghost use Rattle.refusal.specs.declared.Refusal.{Refusal};
 ghost use Rattle.encoding.specs.Paper.{spanPaper, movedPaper};
-ghost use Rattle.covenants.specs.Covenant.{itemAt, headAt, opening, covenantAt, skimmed};
+ghost use Rattle.covenants.specs.Covenant.{maxEncodedSize, itemAt, headAt, opening, covenantAt, skimmed};
 ghost use Rattle.covenants.specs.Paper.{covenantPaper, headPaper};
 
 // A covenant as a flat directory over lent bytes: where each of at most 1,000 items starts and how long it is, and zeros after them.
@@ -44,6 +44,7 @@ impl Covenant {
         let allowance = capped(limit);
         match opened(c, s, allowance) {
             ReadHead::Head { kind, count, next } => {
+                // `&s[..]` hands on the pointer and the length, so that the loop does not wait for a store.
                 let passed = pass_items(next, &s[..], c.position, allowance, count);
                 completed(c.position, kind, count, passed)
             }
@@ -75,7 +76,7 @@ pub(crate) enum ReadHead {
 
 // 5: more bytes than are allowed, be it those consumed, those that a length asks for, those of the whole input, or the two of the least covenant.
 pub(crate) fn too_large(actual: usize, maximum: usize, position: usize) -> Stop
-    ensures { λ r. ⌜ (r .refusal ≡ Refusal.TooLarge actual maximum) × (r .position ≡ position) ⌝ }
+    ensures { λ r. ⌜ (r .refusal ≡ Refusal.TooLarge actual maximum) × (standing r ≡ position) ⌝ }
 {
     Stop {
         refusal: Refusal::TooLarge { actual, maximum },
@@ -83,9 +84,19 @@ pub(crate) fn too_large(actual: usize, maximum: usize, position: usize) -> Stop
     }
 }
 
+// 1: so many bytes are missing to the place where a covenant would begin.
+fn beyond(at: usize, needed: usize) -> Stop
+    ensures { λ r. ⌜ (r .refusal ≡ Refusal.UnexpectedEnd at needed) × (standing r ≡ at) ⌝ }
+{
+    Stop {
+        refusal: Refusal::UnexpectedEnd { offset: at, needed },
+        position: at,
+    }
+}
+
 // An allowance is at most what a covenant can take.
 pub(crate) fn capped(limit: usize) -> usize
-    ensures { λ r. ⌜ r ≡ min limit 1000009 ⌝ }
+    ensures { λ r. ⌜ r ≡ min limit maxEncodedSize ⌝ }
 {
     if Covenant::MAX_ENCODED_SIZE < limit {
         Covenant::MAX_ENCODED_SIZE
@@ -95,7 +106,7 @@ pub(crate) fn capped(limit: usize) -> usize
 }
 
 // One item of a covenant that began at `start`.
-pub(crate) fn item(c: Cursor, s: &[u8], start: usize, allowance: usize) -> ReadSpan
+pub(crate) fn read_item(c: Cursor, s: &[u8], start: usize, allowance: usize) -> ReadSpan
     requires { ⌜ start ≤ c .position ⌝ }
     ensures { λ r. ⌜ spanPaper r ≡ itemAt allowance start (now (s .entry)) (c .position) ⌝ }
 {
@@ -142,13 +153,7 @@ pub(crate) fn opened(c: Cursor, s: &[u8], allowance: usize) -> ReadHead
 {
     let at = c.position;
     if s.len() < at {
-        return ReadHead::Refused(Stop {
-            refusal: Refusal::UnexpectedEnd {
-                offset: at,
-                needed: at - s.len(),
-            },
-            position: at,
-        });
+        return ReadHead::Refused(beyond(at, at - s.len()));
     }
     if allowance < 2 {
         return ReadHead::Refused(too_large(2, allowance, at));
@@ -193,7 +198,7 @@ pub(crate) fn pass_items(
         if count <= short.passed {
             return Moved::To(Cursor { position: short.at });
         }
-        match item(Cursor { position: short.at }, s, start, allowance) {
+        match read_item(Cursor { position: short.at }, s, start, allowance) {
             ReadSpan::Span {
                 start: _,
                 len: _,

@@ -1,11 +1,13 @@
-// Short items: those whose length is one byte. Most items are, and a loop over them makes no answer of its own for each.
+// Short items: those whose length is one byte. A fast path, for most items are short: its loops make no `ReadSpan` for
+// an item. They ask only whether it is short and ends in time, and where the next one stands; the first other item is
+// left, with its refusals, to `read_item`.
 ghost use mathlib.Core.Path.{_≡_};
 ghost use mathlib.Core.Bool.{true};
 ghost use Prim.Native.Nat.{ℕ, _+_, _-_, _≤_, min};
 ghost use lib.ListN.{length};
 ghost use Rattle.refusal.specs.Outcome.{past, manyAt};
-ghost use Rattle.covenants.specs.Covenant.{itemAt};
-ghost use Rattle.covenants.specs.Filling.{Filling, Short};
+ghost use Rattle.covenants.specs.Covenant.{maxItems, itemAt};
+ghost use Rattle.covenants.specs.Workers.{Filling, ShortAt};
 
 // How far items were passed: how many of them, and where the next one stands.
 pub(crate) struct Reached {
@@ -41,7 +43,7 @@ struct Next {
 // The item at `at`, if it is short and ends by `end`. An empty one is told apart, so that the next place does not wait for its length.
 fn short_item(s: &[u8], end: usize, at: usize) -> Next
     requires { ⌜ end ≤ length (now s) ⌝ }
-    ensures { λ r. ⌜ (r .there ≡ true → Short (now (s .entry)) end at (r .at)) ⌝ }
+    ensures { λ r. ⌜ (r .there ≡ true → ShortAt (now (s .entry)) end at (r .at)) ⌝ }
 {
     if end <= at {
         return Next { there: false, at };
@@ -101,7 +103,7 @@ pub(crate) fn short_entries(
     starts: &mut [usize; 1000],
     lens: &mut [usize; 1000],
 ) -> Reached
-    requires { ⌜ (start ≤ from) × (passed ≤ count) × (count ≤ 1000) ⌝ }
+    requires { ⌜ (start ≤ from) × (passed ≤ count) × (count ≤ maxItems) ⌝ }
     ensures { λ r. ⌜ (start ≤ r .at) × (passed ≤ r .passed) × (r .passed ≤ count) ⌝ }
     ensures { λ r. ⌜ ((first : ℕ) → Filling (itemAt allowance start (now (s .entry))) start count first (now (starts .entry)) (now (lens .entry)) from passed → Filling (itemAt allowance start (now (s .entry))) start count first (now (starts .exit)) (now (lens .exit)) (r .at) (r .passed)) ⌝ }
 {

@@ -30,5 +30,5 @@ module _ (d : Decoder) where
   pub finish-one : {r r′ : Moved} → movedPaper r ≡ finishAt (now (d .input)) (d .position) → movedPaper r′ ≡ finishAt (now (d .input)) (d .position) → r ≡ r′
   finish-one e f = moved-same (one e f)
 
-pub read-varbytes-one : (maximum : ℕ) (input : List ℕ) {r r′ : ReadSpan} → spanPaper r ≡ wholeVarbytes maximum input → spanPaper r′ ≡ wholeVarbytes maximum input → r ≡ r′
-read-varbytes-one maximum input e f = span-same (one e f)
+pub whole-varbytes-one : (maximum : ℕ) (input : List ℕ) {r r′ : ReadSpan} → spanPaper r ≡ wholeVarbytes maximum input → spanPaper r′ ≡ wholeVarbytes maximum input → r ≡ r′
+whole-varbytes-one maximum input e f = span-same (one e f)

@@ -121,7 +121,7 @@ fn ending(start: usize, len: usize, end: Moved) -> ReadSpan
 }
 
 // The whole of `input` is a compact size of at most `maximum` and as many bytes: the Rust's `read_varbytes`, and `finish`.
-pub fn read_varbytes(input: &[u8], maximum: usize) -> ReadSpan
+pub fn whole_varbytes(input: &[u8], maximum: usize) -> ReadSpan
     ensures { λ r. ⌜ spanPaper r ≡ wholeVarbytes maximum (now (input .entry)) ⌝ }
 {
     let mut decoder = Decoder::new(input);

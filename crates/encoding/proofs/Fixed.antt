@@ -13,7 +13,7 @@ use Rattle.words.specs.Words.{le, Bytes}
 use Rattle.words.specs.Buffers.{pick, laid}
 use Rattle.words.proofs.Le.{le-under}
 use Rattle.words.proofs.Over.{laid-all}
-use Rattle.refusal.specs.Outcome.{Outcome, ok, err, then}
+use Rattle.refusal.specs.Outcome.{Stand, Outcome, ok, err, then}
 use Rattle.refusal.proofs.Outcomes.{then-ok, passed, never}
 use Rattle.encoding.specs.Wire.{sliceAt, bytesAt, fixedAt, canonical, compactAt, most, compactMost}
 use Rattle.encoding.specs.Paper.{movedPaper, arrayPaper, shown}
@@ -115,7 +115,7 @@ array-found n r (ok bs p) {m} {next} e f g =
     ap₂ ok (sym b) q
 array-found n r (err k vs p) e f g = absurd (never (ap movedPaper f ∙ g) (ap (λ (t : Outcome Unit × List ℕ). t .0) e))
 
-pub array-refused : (n : ℕ) (r : ReadArray) (o : Outcome (List ℕ)) {m : Moved} {k : ℕ} {vs : List ℕ} {p : ℕ} → arrayPaper r ≡ shown n o → r .moved ≡ m → movedPaper m ≡ err k vs p → o ≡ err k vs p
+pub array-refused : (n : ℕ) (r : ReadArray) (o : Outcome (List ℕ)) {m : Moved} {k : ℕ} {vs : List ℕ} {p : Stand} → arrayPaper r ≡ shown n o → r .moved ≡ m → movedPaper m ≡ err k vs p → o ≡ err k vs p
 array-refused n r (ok bs q) e f g = absurd (never (ap (λ (t : Outcome Unit × List ℕ). t .0) e) (ap movedPaper f ∙ g))
 array-refused n r (err k′ vs′ q) {m} {k} {vs} {p} e f g =
     let h = sym (ap (λ (t : Outcome Unit × List ℕ). t .0) e) ∙ ap movedPaper f ∙ g in

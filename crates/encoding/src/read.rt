@@ -6,6 +6,7 @@ ghost use Prim.Native.Nat.{ℕ, _+_, _-_, _≤_, _<_};
 ghost use lib.ListN.{length, take, drop, getD};
 ghost use Rattle.words.specs.Words.{le};
 ghost use Rattle.refusal.specs.Outcome.{then};
+ghost use Rattle.refusal.specs.Paper.{standing};
 ghost use Rattle.refusal.specs.declared.Refusal.{Refusal};
 ghost use Rattle.encoding.specs.Wire.{remainingAt, sliceAt, bytesAt, fixedAt, canonical, compactAt, compactMost, boundedAt, varbytesAt, finishAt};
 ghost use Rattle.encoding.specs.Paper.{spanPaper, u8Paper, u16Paper, u32Paper, u64Paper, sizePaper, movedPaper, arrayPaper, shown};
@@ -62,18 +63,52 @@ pub struct ReadArray {
     pub bytes: [u8; 32],
 }
 
+// 1: so many bytes are missing to what begins at `at`.
+fn cut(at: usize, needed: usize) -> Stop
+    ensures { λ r. ⌜ (r .refusal ≡ Refusal.UnexpectedEnd at needed) × (standing r ≡ at) ⌝ }
+{
+    Stop {
+        refusal: Refusal::UnexpectedEnd { offset: at, needed },
+        position: at,
+    }
+}
+
+// 2: a length above its maximum, or a slice whose end would pass 2^64 - 1.
+fn too_long(actual: usize, maximum: usize, position: usize) -> Stop
+    ensures { λ r. ⌜ (r .refusal ≡ Refusal.LengthExceedsBound actual maximum) × (standing r ≡ position) ⌝ }
+{
+    Stop {
+        refusal: Refusal::LengthExceedsBound { actual, maximum },
+        position,
+    }
+}
+
+// 3: so many bytes are left.
+fn trailing(remaining: usize, position: usize) -> Stop
+    ensures { λ r. ⌜ (r .refusal ≡ Refusal.TrailingBytes remaining) × (standing r ≡ position) ⌝ }
+{
+    Stop {
+        refusal: Refusal::TrailingBytes { remaining },
+        position,
+    }
+}
+
+// 4: a number in a longer form than it needs.
+fn longer_form(width: u8, position: usize) -> Stop
+    ensures { λ r. ⌜ (r .refusal ≡ Refusal.InvalidValue width) × (standing r ≡ position) ⌝ }
+{
+    Stop {
+        refusal: Refusal::InvalidValue { width },
+        position,
+    }
+}
+
 // What every reader answers to a cursor beyond its slice.
 fn beyond(at: usize, length: usize) -> Stop
     requires { ⌜ length < at ⌝ }
-    ensures { λ r. ⌜ (r .refusal ≡ Refusal.UnexpectedEnd at (at - length)) × (r .position ≡ at) ⌝ }
+    ensures { λ r. ⌜ (r .refusal ≡ Refusal.UnexpectedEnd at (at - length)) × (standing r ≡ at) ⌝ }
 {
-    Stop {
-        refusal: Refusal::UnexpectedEnd {
-            offset: at,
-            needed: at - length,
-        },
-        position: at,
-    }
+    cut(at, at - length)
 }
 
 fn wide(x: u8) -> u64
@@ -103,10 +138,7 @@ fn shortest(read: ReadU64, width: u8, least: u64) -> ReadU64
     match read {
         ReadU64::Value(v, next) => {
             if v < least {
-                ReadU64::Refused(Stop {
-                    refusal: Refusal::InvalidValue { width },
-                    position: next.position,
-                })
+                ReadU64::Refused(longer_form(width, next.position))
             } else {
                 ReadU64::Value(v, next)
             }
@@ -145,21 +177,9 @@ impl Cursor {
             };
         }
         if length <= 0xffff_ffff_ffff_ffff - at {
-            return ReadSpan::Refused(Stop {
-                refusal: Refusal::UnexpectedEnd {
-                    offset: at,
-                    needed: length - left,
-                },
-                position: at,
-            });
+            return ReadSpan::Refused(cut(at, length - left));
         }
-        ReadSpan::Refused(Stop {
-            refusal: Refusal::LengthExceedsBound {
-                actual: 0xffff_ffff_ffff_ffff,
-                maximum: left,
-            },
-            position: at,
-        })
+        ReadSpan::Refused(too_long(0xffff_ffff_ffff_ffff, left, at))
     }
 
     // The number that the next n bytes spell.
@@ -254,13 +274,7 @@ impl Cursor {
             ReadU64::Value(v, next) => {
                 let value = v as usize;
                 if maximum < value {
-                    ReadSize::Refused(Stop {
-                        refusal: Refusal::LengthExceedsBound {
-                            actual: value,
-                            maximum,
-                        },
-                        position: next.position,
-                    })
+                    ReadSize::Refused(too_long(value, maximum, next.position))
                 } else {
                     ReadSize::Value(value, next)
                 }
@@ -278,13 +292,7 @@ impl Cursor {
             return ReadSpan::Refused(beyond(at, s.len()));
         }
         if maximum < length {
-            return ReadSpan::Refused(Stop {
-                refusal: Refusal::LengthExceedsBound {
-                    actual: length,
-                    maximum,
-                },
-                position: at,
-            });
+            return ReadSpan::Refused(too_long(length, maximum, at));
         }
         self.read_slice(s, length)
     }
@@ -330,12 +338,7 @@ impl Cursor {
         if at == s.len() {
             Moved::To(self)
         } else {
-            Moved::Refused(Stop {
-                refusal: Refusal::TrailingBytes {
-                    remaining: s.len() - at,
-                },
-                position: at,
-            })
+            Moved::Refused(trailing(s.len() - at, at))
         }
     }
 }

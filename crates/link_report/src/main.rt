@@ -10,6 +10,7 @@ fn report(tx: &[u8], coins: &[u8]) {
         Put::Written(m) => {
             io::write_all(STDOUT_FILENO, &line[..m]);
         }
+        // Never: every line fits (LinkLineFits of reports).
         Put::Refused(_) => {}
     }
 }

@@ -6,6 +6,8 @@ use mathlib.Core.List.{List, _++_}
 use mathlib.Core.Bool.{Bool, true, false}
 use lib.ListN.{length, take, drop}
 use lib.Seq.{take-add, drop-drop}
+use lib.Dec.{eqb}
+use borrow.Author.Tests.{eqb-true, eqb-false}
 use Rattle.words.specs.Words.{le, Bytes}
 use Rattle.words.proofs.Le.{part-bytes, part-long, part-of-part, word-one}
 use Rattle.encoding.proofs.Slice as slice
@@ -109,3 +111,11 @@ module _ (s t : List ℕ) (bs : Bytes s) (bt : Bytes t) (big : (length s < 2 ^ 6
       let w : take 8 (drop (a + 28) s) ≡ take 8 (drop (b + 28) t) = word-one s t (a + 28) (b + 28) bs bt (omega (arith, there)) (omega (arith, there)) e in
       let indices : be (Index s a) ≡ be (Index t b) = ap be (index-in s a ∙ ap (λ l. take 4 (drop 4 l)) w ∙ sym (index-in t b)) in
       same-is-equal _ _ .1 (shown-is s a (big .0) (there .0) ∙ ap₂ outpoint hashes indices ∙ sym (shown-is t b (big .1) (there .1)))
+
+  -- the test of the last word tells, once the hashes agree
+  pub last-word : {j w v : ℕ} → Alike s t a b j → 32 ≤ j → w ≡ Word s a 28 → v ≡ Word t b 28 → eqb w v ≡ Same
+  last-word {j} {w} {v} r h p q = go (eqb w v) refl
+    where
+      go : (x : Bool) → eqb w v ≡ x → x ≡ Same
+      go true e = sym (all-same r h (sym p ∙ eqb-true w v e ∙ q))
+      go false e = sym (last-differs (λ f. eqb-false w v e (p ∙ f ∙ sym q)))

@@ -1,18 +1,17 @@
--- A commitment that is opened; the address that a transfer names; the row of a spent kind.
+-- The row of a spent kind.
 use mathlib.Core.Path.{_≡_, refl}
-use Prim.Native.Nat.{ℕ, _≤_, _<_}
-use mathlib.Core.List.{List, [], _∷_}
-use mathlib.Core.Bool.{Bool, true, false, _&&_}
-use lib.ListN.{length, getD}
+use Prim.Native.Nat.{ℕ}
+use native.Mathlib.Omega.{arith}
+use mathlib.Core.List.{[], _∷_}
+use mathlib.Core.Bool.{Bool, true, false}
 use lib.Dec.{eqb}
-use borrow.Author.Tests.{lt-ltb, le-ltb, le-leb, lt-leb, eq-eqb, ne-eqb}
 use Rattle.words.specs.Buffers.{pick}
-use Rattle.words.specs.Sameness.{same}
-use Rattle.names.specs.Blind.{blindOf}
-use Rattle.covenants.specs.Items.{Maybe}
+use Rattle.covenants.specs.Kind.{None, Claim, Open, Bid, Reveal, Redeem, Register, Update, Renew, Transfer, Finalize, Revoke}
+use Rattle.covenants.specs.Items.{Maybe, absent}
 use Rattle.sheets.specs.Sheet.{Output}
-use Rattle.links.specs.Rules.{passes, breaks, check, oneOf, committed, destination, bidRule, revealRule, ownedRule, transferRule, freeRule, unknownRule, paired, rule}
-use Rattle.links.specs.Workers.{namedAddress, rowOf, rowRule}
+use Rattle.checks.specs.Checks.{passes, breaks}
+use Rattle.links.specs.Rules.{oneOf, bidRule, revealRule, ownedRule, transferRule, freeRule, unknownRule, paired, rule}
+use Rattle.links.specs.Workers.{rowOf, rowRule}
 use Rattle.links.specs.declared.rows.TableRow.{TableRow}
 
 -- the last of a list of kinds
@@ -23,52 +22,11 @@ one-of-one k x = go (eqb k x)
     go true = refl
     go false = refl
 
-module _ (i : ℕ) (spent made : Output) where
-  -- ---- a commitment
-
-  pub open-first : (length (getD (made .items) 2 []) ≡ 32 → ⊥) → breaks 15 (i ∷ 5 ∷ []) ≡ committed i spent made
-  unfolding committed
-  open-first h = rw (ne-eqb _ _ h)
-
-  pub open-second : {x : List ℕ} → getD (made .items) 2 [] ≡ x → length x ≡ 32 → (length (getD (spent .items) 3 []) ≡ 32 → ⊥) → breaks 15 (i ∷ 6 ∷ []) ≡ committed i spent made
-  unfolding committed
-  open-second p l h = rw (p, eq-eqb _ _ l, ne-eqb _ _ h)
-
-  module _ {x y : List ℕ} (p : getD (made .items) 2 [] ≡ x) (l : length x ≡ 32) (q : getD (spent .items) 3 [] ≡ y) (m : length y ≡ 32) where
-    pub open-other : same (blindOf (made .value) x) y ≡ false → breaks 18 (i ∷ []) ≡ committed i spent made
-    unfolding committed
-    open-other e = rw (p, eq-eqb _ _ l, q, eq-eqb _ _ m, e)
-
-    pub open-above : same (blindOf (made .value) x) y ≡ true → spent .value < made .value → breaks 19 (i ∷ []) ≡ committed i spent made
-    unfolding committed
-    open-above e h = rw (p, eq-eqb _ _ l, q, eq-eqb _ _ m, e, lt-leb _ _ h)
-
-    pub open-fine : same (blindOf (made .value) x) y ≡ true → made .value ≤ spent .value → passes true ≡ committed i spent made
-    unfolding committed
-    open-fine e h = rw (p, eq-eqb _ _ l, q, eq-eqb _ _ m, e, le-leb _ _ h)
-
-  -- ---- a transfer's address
-
-  pub destined-other : (length (getD (spent .items) 2 []) ≡ 1 → ⊥) → breaks 15 (i ∷ 7 ∷ []) ≡ destination i spent made
-  unfolding destination
-  destined-other h = rw (ne-eqb _ _ h)
-
-  pub destined-then : {x : List ℕ} {version : ℕ} → getD (spent .items) 2 [] ≡ x → length x ≡ 1 → getD x 0 0 ≡ version → namedAddress i spent made version ≡ destination i spent made
-  unfolding destination
-  destined-then p l v = rw (p, eq-eqb _ _ l, v)
-
-  pub named-there : (version : ℕ) {x : List ℕ} {t : Bool} → 3 < length (spent .items) → getD (spent .items) 3 [] ≡ x → (eqb (made .version) version && same (made .hash) x) ≡ t
-      → check t 23 (i ∷ []) ≡ namedAddress i spent made version
-  named-there version h p e = rw (lt-ltb _ _ h, p, e)
-
-  pub named-absent : (version : ℕ) → length (spent .items) ≤ 3 → breaks 15 (i ∷ 8 ∷ []) ≡ namedAddress i spent made version
-  named-absent version h = rw (le-ltb _ _ h)
-
 -- ---- the row of a spent kind
 
 pub in-row : (i : ℕ) (spent : Output) (partner : Maybe Output) → rowRule (rowOf (spent .kind)) i spent partner ≡ rule i spent partner
 unfolding rule
-in-row i spent partner = go (oneOf (spent .kind) (0 ∷ 2 ∷ 5 ∷ [])) (eqb (spent .kind) 3) (oneOf (spent .kind) (1 ∷ 4 ∷ [])) (oneOf (spent .kind) (6 ∷ 7 ∷ 8 ∷ 10 ∷ [])) (eqb (spent .kind) 9) (eqb (spent .kind) 11)
+in-row i spent partner = go (oneOf (spent .kind) (None ∷ Open ∷ Redeem ∷ [])) (eqb (spent .kind) Bid) (oneOf (spent .kind) (Claim ∷ Reveal ∷ [])) (oneOf (spent .kind) (Register ∷ Update ∷ Renew ∷ Finalize ∷ [])) (eqb (spent .kind) Transfer) (eqb (spent .kind) Revoke)
   where
     go : (free bid reveal owned transfer revoke : Bool)
         → rowRule (pick free TableRow.Free (pick bid TableRow.Bid (pick reveal TableRow.Reveal (pick owned TableRow.Owned (pick transfer TableRow.Transfer (pick revoke TableRow.Revoke TableRow.Unknown)))))) i spent partner
@@ -86,3 +44,14 @@ in-row i spent partner = go (oneOf (spent .kind) (0 ∷ 2 ∷ 5 ∷ [])) (eqb (s
     go false false false false true revoke = refl
     go false false false false false true = refl
     go false false false false false false = refl
+
+-- .. of an input without a partner that passes: no output is linked
+pub alone-unlinked : (row : TableRow) (i : ℕ) (spent : Output) {l : Bool} → rowRule row i spent absent ≡ passes l → l ≡ false
+unfolding freeRule unknownRule
+alone-unlinked TableRow.Free i spent e = cc
+alone-unlinked TableRow.Bid i spent e = let z : _≡_ {A = ℕ} 0 1 = cc in absurd (omega arith)
+alone-unlinked TableRow.Reveal i spent e = let z : _≡_ {A = ℕ} 0 1 = cc in absurd (omega arith)
+alone-unlinked TableRow.Owned i spent e = let z : _≡_ {A = ℕ} 0 1 = cc in absurd (omega arith)
+alone-unlinked TableRow.Transfer i spent e = let z : _≡_ {A = ℕ} 0 1 = cc in absurd (omega arith)
+alone-unlinked TableRow.Revoke i spent e = let z : _≡_ {A = ℕ} 0 1 = cc in absurd (omega arith)
+alone-unlinked TableRow.Unknown i spent e = cc

@@ -1,9 +1,10 @@
 pub mod Alike
-pub mod Comparing
 pub mod Judging
+pub mod Turning
 pub mod Unpaired
 pub mod Walking
 pub mod Opening
 pub mod Same
 pub mod One
 pub mod Samples
+pub mod Ruled

@@ -10,19 +10,20 @@ use Rattle.refusal.specs.Outcome.{Outcome, ok, err, manyAt, listOf}
 use Rattle.refusal.proofs.Many.{many-next, many-none, many-long}
 use Rattle.primitives.specs.declared.Outpoint.{Outpoint}
 use Rattle.primitives.specs.Outpoints.{shownOutpoint, isNull}
-use Rattle.sheets.specs.Sheet.{Output, Coin, outputOf, coinOf, inputAt, placeAt, coinAt, ledgerAt, transactionAt, coinsAt, whole, refused, judged, transactionOf, coinsOf, transactionCounts, coinCounts}
+use Rattle.sheets.specs.Sheet.{Output, Coin, outputOf, coinOf, inputAt, placeAt, coinAt, ledgerAt, transactionAt, coinsAt, whole, refused, judged, transactionOf, coinsOf, transactionCounts, coinCounts, pairOf, pairCounts}
 use Rattle.sheets.specs.declared.Place.{Place}
-use Rattle.sheets.proofs.Whole.{transaction-is, coins-are}
+use Rattle.sheets.proofs.Whole.{transaction-is, coins-are, pair-whole, pair-refused}
 use Rattle.sheets.proofs.Counts.{transaction-small, coins-small, inputs-end, outputs-end, outputs-at, transaction-not, coins-not, transaction-holds, coins-hold}
-use Rattle.links.specs.Rules.{Verdict, broken, linksFrom, coinbase, linksOf}
-use Rattle.links.specs.Verify.{plain, told, stopped, verifyOf}
-use Rattle.links.specs.Walk.{inputsIn, outputsIn, coinsIn, Sheets}
+use Rattle.links.specs.Rules.{Verdict, broken, rule, linksFrom, coinbase, linksOf}
+use Rattle.links.specs.Verify.{plain, answerOf, stopped, verifyOf}
+use Rattle.links.specs.Workers.{inputsIn, outputsIn, coinsIn, Sheets}
 use Rattle.links.proofs.Walking.{outpoint-is}
 
-pub both : (tx coins : List ℕ) {inputs outputs n z : ℕ} → transactionCounts tx ≡ whole (inputs, outputs) → coinCounts coins ≡ whole (n, z) → Sheets tx coins inputs outputs n
-both tx coins {inputs} {outputs} e f =
-    let t = transaction-is tx e in
-    let k = coins-are coins f in
+pub held : (tx coins : List ℕ) {inputs outputs n z : ℕ} → pairCounts tx coins ≡ whole ((inputs, outputs), (n, z)) → Sheets tx coins inputs outputs n
+held tx coins {inputs} {outputs} e =
+    let p = pair-whole tx coins e in
+    let t = transaction-is tx (p .0) in
+    let k = coins-are coins (p .1) in
     let small = transaction-small tx (t .read .1) in
     let small-coins = coins-small coins (k .read .1) in
     record {
@@ -38,20 +39,25 @@ both tx coins {inputs} {outputs} e f =
     }
 
 module _ (tx coins : List ℕ) where
-  pub transaction-refused : {k : ℕ} {vs : List ℕ} {d : ℕ} → transactionCounts tx ≡ refused k vs d → plain (stopped k vs d) ≡ verifyOf tx coins
-  unfolding verifyOf
+  transaction-refused : {k : ℕ} {vs : List ℕ} {d : ℕ} → transactionCounts tx ≡ refused k vs d → plain (stopped k vs d) ≡ verifyOf tx coins
+  unfolding verifyOf pairOf
   transaction-refused e = rw (transaction-not tx e)
 
-  pub coins-refused : {counts : ℕ × ℕ} {k : ℕ} {vs : List ℕ} {d : ℕ} → transactionCounts tx ≡ whole counts → coinCounts coins ≡ refused k vs d → plain (stopped k vs d) ≡ verifyOf tx coins
-  unfolding verifyOf
+  coins-refused : {counts : ℕ × ℕ} {k : ℕ} {vs : List ℕ} {d : ℕ} → transactionCounts tx ≡ whole counts → coinCounts coins ≡ refused k vs d → plain (stopped k vs d) ≡ verifyOf tx coins
+  unfolding verifyOf pairOf
   coins-refused e f = rw (transaction-holds tx (transaction-is tx e), coins-not coins f)
 
-  pub verify-is : {inputs outputs n z : ℕ} → transactionCounts tx ≡ whole (inputs, outputs) → coinCounts coins ≡ whole (n, z)
-      → told (linksOf (inputsIn tx inputs) (outputsIn tx outputs (4 + inputs * 36)) (coinsIn coins n)) ≡ verifyOf tx coins
-  unfolding verifyOf
-  verify-is e f =
-      let t = transaction-is tx e in
-      let k = coins-are coins f in
+  -- either sheet is refused
+  pub pair-not : {k : ℕ} {vs : List ℕ} {d : ℕ} → pairCounts tx coins ≡ refused k vs d → plain (stopped k vs d) ≡ verifyOf tx coins
+  pair-not e = pair-refused tx coins e transaction-refused (λ counts. coins-refused)
+
+  pub verify-is : {inputs outputs n z : ℕ} → pairCounts tx coins ≡ whole ((inputs, outputs), (n, z))
+      → answerOf (linksOf rule (inputsIn tx inputs) (outputsIn tx outputs (4 + inputs * 36)) (coinsIn coins n)) ≡ verifyOf tx coins
+  unfolding verifyOf pairOf
+  verify-is e =
+      let p = pair-whole tx coins e in
+      let t = transaction-is tx (p .0) in
+      let k = coins-are coins (p .1) in
       rw (transaction-holds tx t, coins-hold coins k, t .inputs, outputs-at tx t, k .coins)
 
 -- ---- 10 and 11
@@ -69,26 +75,26 @@ module _ (tx : List ℕ) (n : ℕ) {xs : List Outpoint} {end : ℕ} (reads : man
       ap isNull (outpoint-is tx 4 e (w .here)) ∙ ap coinbase (sym l)
 
 module _ (xs : List Outpoint) (os : List Output) (cs : List Coin) (e : coinbase xs ≡ false) where
-  count-differs : {a b : ℕ} → length xs ≡ a → length cs ≡ b → (a ≡ b → ⊥) → broken 11 (a ∷ b ∷ []) ≡ linksOf xs os cs
+  count-differs : {a b : ℕ} → length xs ≡ a → length cs ≡ b → (a ≡ b → ⊥) → broken 11 (a ∷ b ∷ []) ≡ linksOf rule xs os cs
   unfolding linksOf
   count-differs p q h = rw (e, p, q, ne-eqb _ _ h)
 
-  count-same : length xs ≡ length cs → linksFrom 0 0 0 xs cs os ≡ linksOf xs os cs
+  count-same : length xs ≡ length cs → linksFrom rule 0 0 0 xs cs os ≡ linksOf rule xs os cs
   unfolding linksOf
   count-same p = rw (e, eq-eqb _ _ p)
 
 module _ (tx coins : List ℕ) (inputs outputs n : ℕ) (s : Sheets tx coins inputs outputs n) where
   abbrev Links : Verdict
-  Links = linksOf (inputsIn tx inputs) (outputsIn tx outputs (4 + inputs * 36)) (coinsIn coins n)
+  Links = linksOf rule (inputsIn tx inputs) (outputsIn tx outputs (4 + inputs * 36)) (coinsIn coins n)
 
   inputs-long : length (inputsIn tx inputs) ≡ inputs
   inputs-long = ap (λ (o : Outcome (List Outpoint)). length (listOf o)) (s .inputs-read) ∙ many-long (inputAt tx) inputs 4 (s .inputs-read)
 
   coins-long : length (coinsIn coins n) ≡ n
   coins-long =
-      length-map (listOf (manyAt (coinAt coins) n 4)) (coinOf coins)
+      length-map (listOf (manyAt (coinAt 1 coins) n 4)) (coinOf coins)
       ∙ ap (λ (o : Outcome (List (Outpoint × Place))). length (listOf o)) (s .coins-read)
-      ∙ many-long (coinAt coins) n 4 (s .coins-read)
+      ∙ many-long (coinAt 1 coins) n 4 (s .coins-read)
 
   pub is-coinbase : coinbase (inputsIn tx inputs) ≡ true → broken 10 [] ≡ Links
   unfolding linksOf
@@ -98,9 +104,9 @@ module _ (tx coins : List ℕ) (inputs outputs n : ℕ) (s : Sheets tx coins inp
     pub counts-differ : (inputs ≡ n → ⊥) → broken 11 (inputs ∷ n ∷ []) ≡ Links
     counts-differ h = count-differs (inputsIn tx inputs) (outputsIn tx outputs (4 + inputs * 36)) (coinsIn coins n) e inputs-long coins-long h
 
-    pub counts-agree : inputs ≡ n → linksFrom 0 0 0 (inputsIn tx inputs) (coinsIn coins inputs) (outputsIn tx outputs (4 + inputs * 36)) ≡ Links
+    pub counts-agree : inputs ≡ n → linksFrom rule 0 0 0 (inputsIn tx inputs) (coinsIn coins inputs) (outputsIn tx outputs (4 + inputs * 36)) ≡ Links
     counts-agree h =
-        ap (λ (m : ℕ). linksFrom 0 0 0 (inputsIn tx inputs) (coinsIn coins m) (outputsIn tx outputs (4 + inputs * 36))) h
+        ap (λ (m : ℕ). linksFrom rule 0 0 0 (inputsIn tx inputs) (coinsIn coins m) (outputsIn tx outputs (4 + inputs * 36))) h
         ∙ count-same (inputsIn tx inputs) (outputsIn tx outputs (4 + inputs * 36)) (coinsIn coins n) e (inputs-long ∙ h ∙ sym coins-long)
 
   pub paired : inputs ≡ n → Sheets tx coins inputs outputs inputs

@@ -6,13 +6,14 @@ use Rattle.refusal.specs.Outcome.{manyAt}
 use Rattle.encoding.specs.Wire.{inside, sliceAt, fixedAt, canonical, compactAt, most, compactMost, finishAt}
 use Rattle.primitives.specs.Outpoints.{sameOutpoint, isNull}
 use Rattle.covenants.specs.Covenant as covenant
-use Rattle.sheets.specs.Sheet.{spell, itemsFrom, headFields, headAt, inputAt, bodyAt, placeAt, coinAt, sheetAt, ledgerAt, transactionAt, coinsAt, transactionOf, coinsOf}
-use Rattle.links.specs.Rules.{agree, nameAndStart, ownedRule, rule, unpaired, linksFrom, coinbase, linksOf}
+use Rattle.sheets.specs.Sheet.{spell, seenAt, partsFrom, itemsFrom, headFields, sheetHeadAt, inputAt, placeBodyAt, placeAt, coinAt, sheetAt, ledgerAt, transactionAt, coinsAt, transactionOf, coinsOf, pairOf}
+use Rattle.checks.specs.Checks.{agree, nameAndStart}
+use Rattle.links.specs.Rules.{ownedRule, rule, unpaired, linksFrom, coinbase, linksOf}
 use Rattle.links.specs.Verify.{verifyOf}
 use Rattle.links.specs.Samples.{Samples}
 
 pub samples : Samples
-unfolding le same manyAt inside sliceAt fixedAt canonical compactAt most compactMost finishAt sameOutpoint isNull covenant.allowed covenant.itemAt covenant.headAt covenant.bodyAt covenant.opening covenant.covenantAt spell itemsFrom headFields headAt inputAt bodyAt placeAt coinAt sheetAt ledgerAt transactionAt coinsAt transactionOf coinsOf agree nameAndStart ownedRule rule unpaired linksFrom coinbase linksOf verifyOf
+unfolding le same manyAt inside sliceAt fixedAt canonical compactAt most compactMost finishAt sameOutpoint isNull covenant.allowed covenant.itemAt covenant.headAt covenant.bodyAt covenant.opening covenant.covenantAt spell seenAt partsFrom itemsFrom headFields sheetHeadAt inputAt placeBodyAt placeAt coinAt sheetAt ledgerAt transactionAt coinsAt transactionOf coinsOf pairOf agree nameAndStart ownedRule rule unpaired linksFrom coinbase linksOf verifyOf
 samples =
     record {
       empty = refl;

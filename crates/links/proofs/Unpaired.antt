@@ -5,14 +5,14 @@ use native.Mathlib.Omega.{arith}
 use native.Mathlib.Nat.{add-zero}
 use mathlib.Core.List.{List, [], _∷_, map}
 use mathlib.Core.Bool.{true, false}
-use Rattle.refusal.specs.Outcome.{ok, err, manyAt}
+use Rattle.refusal.specs.Outcome.{Stand, ok, err, manyAt}
 use Rattle.refusal.proofs.Outcomes.{never}
 use Rattle.refusal.proofs.Many.{Next, many-next, many-none}
 use Rattle.covenants.specs.Kind.{isLinked}
 use Rattle.sheets.specs.Sheet.{Output, outputOf, placeAt}
 use Rattle.sheets.specs.declared.Place.{Place}
 use Rattle.links.specs.Rules.{Verdict, broken, unpaired}
-use Rattle.links.specs.Walk.{Outputs, outputsIn}
+use Rattle.links.specs.Workers.{Outputs, outputsIn}
 
 -- after k of them: what is left gives the whole
 pub record Trailing (tx : List ℕ) (n left : ℕ) (v : Verdict) (at k : ℕ) (whole : Verdict) : Type 0 where
@@ -49,7 +49,7 @@ module _ (tx : List ℕ) (n left : ℕ) (v : Verdict) {at k : ℕ} {whole : Verd
     here : unpaired (n + k) v (map (outputOf tx) (first-output .first ∷ first-output .others)) ≡ whole
     here = ap (λ (l : List Place). unpaired (n + k) v (map (outputOf tx) l)) (sym (first-output .split)) ∙ r .rests
 
-    pub dead : {X : Type 0} {q : ℕ} {vs : List ℕ} {m : ℕ} → placeAt 0 tx at ≡ err q vs m → X
+    pub dead : {X : Type 0} {q : ℕ} {vs : List ℕ} {m : Stand} → placeAt 0 tx at ≡ err q vs m → X
     dead e = absurd (never (first-output .here) e)
 
     module _ {made : Place} {next : ℕ} (e : placeAt 0 tx at ≡ ok made next) where

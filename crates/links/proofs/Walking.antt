@@ -11,19 +11,16 @@ use Rattle.refusal.proofs.Many.{Next, many-next, many-none}
 use Rattle.primitives.specs.declared.Outpoint.{Outpoint}
 use Rattle.primitives.specs.Outpoints.{sameOutpoint, shownOutpoint}
 use Rattle.covenants.specs.Kind.{isName}
-use Rattle.sheets.specs.Sheet.{Output, outputOf, coinOf, inputAt, placeAt, coinAt}
+use Rattle.sheets.specs.Sheet.{Output, outputOf, coinOf, inputAt, placeAt, gap, coinAt}
 use Rattle.sheets.specs.declared.Place.{Place}
 use Rattle.sheets.proofs.Reading.{CoinRead, coin-read, input-moves, place-read}
-use Rattle.links.specs.Rules.{Step, passes, breaks, rule, one, partnerIn, others, Verdict, linked, broken, differs, unpaired, linksFrom}
-use Rattle.links.specs.Paper.{partnerOf, Standing}
-use Rattle.links.specs.Walk.{inputsIn, outputsIn, coinsIn, Outputs, Sheets, madeAt, partnerAt, moves, stops, turned, turnAt}
-use Rattle.links.specs.declared.rows.Partner.{Partner}
+use Rattle.links.specs.Rules.{rule, one, partnerIn, others, Verdict, linked, broken, differs, unpaired, linksFrom}
+use Rattle.checks.specs.Checks.{Step, passes, breaks}
+use Rattle.checks.specs.Paper.{partnerOf}
+use Rattle.links.specs.Workers.{inputsIn, outputsIn, coinsIn, Outputs, Sheets, madeAt, partnerAt, moves, stops, turned, turnAt}
+use Rattle.checks.specs.declared.Partner.{Partner}
 
--- ---- places that were read
-
--- what the rows ask of an output
-pub stands : (side : ℕ) (s : List ℕ) (at : ℕ) {p : Place} {next : ℕ} → length s < 2 ^ 64 → placeAt side s at ≡ ok p next → Standing s p
-stands side s at {next = next} big e = let w = place-read s big side at e in (w .fits, (w .reading, next, w .covenant))
+-- ---- partners and outpoints
 
 pub partner-none : (tx : List ℕ) (at : ℕ) {left : ℕ} → left ≡ 0 → record { partner = Partner.Missing; next = at } ≡ partnerAt left tx at
 unfolding partnerAt
@@ -39,11 +36,15 @@ partner-is tx at {left} h e =
 pub outpoint-is : (s : List ℕ) (at : ℕ) {x y : Outpoint} {next : ℕ} → x ≡ shownOutpoint (inputAt s at) .1 → inputAt s at ≡ ok y next → x ≡ y
 outpoint-is s at e f = e ∙ ap (λ (o : Outcome Outpoint). shownOutpoint o .1) f
 
+one-small : (b : Bool) → one b ≤ 1
+one-small true = omega arith
+one-small false = omega arith
+
 -- ---- one input, on lists
 
 module _ (coins : List ℕ) (i outs names : ℕ) (x : Outpoint) (xs : List Outpoint) (c : Outpoint × Place) (cs : List (Outpoint × Place)) (os : List Output) where
   abbrev Here : Verdict
-  Here = linksFrom i outs names (x ∷ xs) (map (coinOf coins) (c ∷ cs)) os
+  Here = linksFrom rule i outs names (x ∷ xs) (map (coinOf coins) (c ∷ cs)) os
 
   turn-differs : sameOutpoint x (c .0) ≡ false → Here ≡ differs i x (c .0)
   unfolding linksFrom
@@ -54,7 +55,7 @@ module _ (coins : List ℕ) (i outs names : ℕ) (x : Outpoint) (xs : List Outpo
   turn-stopped e g = rw (e, g)
 
   turn-passed : {l : Bool} → sameOutpoint x (c .0) ≡ true → rule i (outputOf coins (c .1)) (partnerIn os) ≡ passes l
-      → Here ≡ linksFrom (suc i) (outs + one l) (names + one (isName (c .1 .kind))) xs (map (coinOf coins) cs) (others os)
+      → Here ≡ linksFrom rule (suc i) (outs + one l) (names + one (isName (c .1 .kind))) xs (map (coinOf coins) cs) (others os)
   unfolding linksFrom
   turn-passed e g = rw (e, g)
 
@@ -92,10 +93,10 @@ turned-moves : (s : Step) (m : Bool) (coin output : ℕ) {m′ l : Bool} {coin�
 turned-moves (passes l) m coin output e = (cc, cc, cc, cc)
 turned-moves (breaks k vs) m coin output {l = l} e = let z : _≡_ {A = ℕ} 0 1 = cc in absurd (omega arith)
 
-turn-is : (tx coins : List ℕ) (i at output left : ℕ) {spent : Place} {next : ℕ} → placeAt 1 coins at ≡ ok spent next
-    → turnAt tx coins i at output left ≡ turned (rule i (outputOf coins spent) (partnerOf tx (partnerAt left tx output .partner))) (isName (spent .kind)) next (partnerAt left tx output .next)
+turn-is : (tx coins : List ℕ) (i coin output left : ℕ) {spent : Place} {next : ℕ} → placeAt 1 coins (coin + 36 + gap 1) ≡ ok spent next
+    → turnAt tx coins i coin output left ≡ turned (rule i (outputOf coins spent) (partnerOf tx (partnerAt left tx output .partner))) (isName (spent .kind)) next (partnerAt left tx output .next)
 unfolding turnAt
-turn-is tx coins i at output left e = rw e
+turn-is tx coins i coin output left e = rw e
 
 -- ---- the walk
 
@@ -111,11 +112,11 @@ pub record Walking (tx coins : List ℕ) (n outputs i outs names a b p : ℕ) (w
   pub ends : ℕ × ℕ × ℕ
   pub inputs : manyAt (inputAt tx) (n - i) a ≡ ok xs (ends .0)
   pub outputs-left : manyAt (placeAt 0 tx) (outputs - i) p ≡ ok ps (ends .1)
-  pub coins-left : manyAt (coinAt coins) (n - i) b ≡ ok cs (ends .2)
-  pub rests : linksFrom i outs names xs (map (coinOf coins) cs) (map (outputOf tx) ps) ≡ whole
+  pub coins-left : manyAt (coinAt 1 coins) (n - i) b ≡ ok cs (ends .2)
+  pub rests : linksFrom rule i outs names xs (map (coinOf coins) cs) (map (outputOf tx) ps) ≡ whole
 
 pub begin : (tx coins : List ℕ) (n outputs : ℕ) → Sheets tx coins n outputs n
-    → Walking tx coins n outputs 0 0 0 4 4 (4 + n * 36) (linksFrom 0 0 0 (inputsIn tx n) (coinsIn coins n) (outputsIn tx outputs (4 + n * 36)))
+    → Walking tx coins n outputs 0 0 0 4 4 (4 + n * 36) (linksFrom rule 0 0 0 (inputsIn tx n) (coinsIn coins n) (outputsIn tx outputs (4 + n * 36)))
 begin tx coins n outputs s =
     let z : n - 0 ≡ n = omega arith in
     let y : outputs - 0 ≡ outputs = omega arith in
@@ -155,11 +156,11 @@ module _ (tx coins : List ℕ) (n outputs : ℕ) {i outs names a b p : ℕ} {who
     first-input : Next (inputAt tx) (n - (i + 1)) a (r .xs) (r .ends .0)
     first-input = many-next (inputAt tx) {n = n - (i + 1)} {n′ = n - i} (omega arith) (r .inputs)
 
-    first-coin : Next (coinAt coins) (n - (i + 1)) b (r .cs) (r .ends .2)
-    first-coin = many-next (coinAt coins) {n = n - (i + 1)} {n′ = n - i} (omega arith) (r .coins-left)
+    first-coin : Next (coinAt 1 coins) (n - (i + 1)) b (r .cs) (r .ends .2)
+    first-coin = many-next (coinAt 1 coins) {n = n - (i + 1)} {n′ = n - i} (omega arith) (r .coins-left)
 
-    coin-parts : CoinRead coins b (first-coin .first) (first-coin .next)
-    coin-parts = coin-read coins b (first-coin .here)
+    coin-parts : CoinRead 1 coins b (first-coin .first) (first-coin .next)
+    coin-parts = coin-read 1 coins b (first-coin .here)
 
     input-ends : (first-input .next ≡ a + 36) × (first-input .next ≤ length tx)
     input-ends = input-moves tx a (r .long .0) (first-input .here)
@@ -170,8 +171,8 @@ module _ (tx coins : List ℕ) (n outputs : ℕ) {i outs names a b p : ℕ} {who
     pub bounds : (a + 36 ≤ length tx) × (b + 36 ≤ length coins)
     bounds = (omega (arith, input-ends), omega (arith, coin-middle))
 
-    spent : placeAt 1 coins (b + 36) ≡ ok (first-coin .first .1) (first-coin .next)
-    spent = ap (placeAt 1 coins) (sym (coin-middle .0)) ∙ coin-parts .output
+    spent : placeAt 1 coins (b + 36 + gap 1) ≡ ok (first-coin .first .1) (first-coin .next)
+    spent = ap (λ (n : ℕ). placeAt 1 coins (n + gap 1)) (sym (coin-middle .0)) ∙ coin-parts .output
 
     module _ {x y : Outpoint} (ex : x ≡ shownOutpoint (inputAt tx a) .1) (ey : y ≡ shownOutpoint (inputAt coins b) .1) where
       x-is : x ≡ first-input .first
@@ -183,8 +184,8 @@ module _ (tx coins : List ℕ) (n outputs : ℕ) {i outs names a b p : ℕ} {who
       same-is : sameOutpoint (first-input .first) (first-coin .first .0) ≡ sameOutpoint x y
       same-is = ap₂ sameOutpoint (sym x-is) (sym y-is)
 
-      here : linksFrom i outs names (first-input .first ∷ first-input .others) (map (coinOf coins) (first-coin .first ∷ first-coin .others)) (map (outputOf tx) (r .ps)) ≡ whole
-      here = ap₂ (λ (X : List Outpoint) (C : List (Outpoint × Place)). linksFrom i outs names X (map (coinOf coins) C) (map (outputOf tx) (r .ps))) (sym (first-input .split)) (sym (first-coin .split)) ∙ r .rests
+      here : linksFrom rule i outs names (first-input .first ∷ first-input .others) (map (coinOf coins) (first-coin .first ∷ first-coin .others)) (map (outputOf tx) (r .ps)) ≡ whole
+      here = ap₂ (λ (X : List Outpoint) (C : List (Outpoint × Place)). linksFrom rule i outs names X (map (coinOf coins) C) (map (outputOf tx) (r .ps))) (sym (first-input .split)) (sym (first-coin .split)) ∙ r .rests
 
       pub differing : sameOutpoint x y ≡ false → differs i x y ≡ whole
       differing e =
@@ -200,23 +201,23 @@ module _ (tx coins : List ℕ) (n outputs : ℕ) {i outs names a b p : ℕ} {who
             ≡ rule i (outputOf coins (first-coin .first .1)) (partnerOf tx (partnerAt (outputs - i) tx p .partner))
         rule-is = ap (rule i (outputOf coins (first-coin .first .1))) (pair .pairs)
 
-        pub stopped : {k : ℕ} {vs : List ℕ} → turnAt tx coins i (b + 36) p (outputs - i) ≡ stops k vs → broken k vs ≡ whole
+        pub stopped : {k : ℕ} {vs : List ℕ} → turnAt tx coins i b p (outputs - i) ≡ stops k vs → broken k vs ≡ whole
         stopped t =
-            let s = turned-stops _ _ _ _ (sym (turn-is tx coins i (b + 36) p (outputs - i) spent) ∙ t) in
+            let s = turned-stops _ _ _ _ (sym (turn-is tx coins i b p (outputs - i) spent) ∙ t) in
             sym (turn-stopped coins i outs names (first-input .first) (first-input .others) (first-coin .first) (first-coin .others) (map (outputOf tx) (r .ps)) (same-is ∙ eqs) (rule-is ∙ s))
             ∙ here
 
-        pub more : {l m : Bool} {coin output outs′ names′ : ℕ} → turnAt tx coins i (b + 36) p (outputs - i) ≡ moves l m coin output → outs′ ≡ outs + one l → names′ ≡ names + one m
-            → one l ≤ 1 → one m ≤ 1 → Walking tx coins n outputs (i + 1) outs′ names′ (a + 36) coin output whole
-        more {l} {m} {coin} {output} {outs′} {names′} t u v small-l small-m =
-            let s = turned-moves _ _ _ _ (sym (turn-is tx coins i (b + 36) p (outputs - i) spent) ∙ t) in
+        pub more : {l m : Bool} {coin output outs′ names′ : ℕ} → turnAt tx coins i b p (outputs - i) ≡ moves l m coin output → outs′ ≡ outs + one l → names′ ≡ names + one m
+            → Walking tx coins n outputs (i + 1) outs′ names′ (a + 36) coin output whole
+        more {l} {m} {coin} {output} {outs′} {names′} t u v =
+            let s = turned-moves _ _ _ _ (sym (turn-is tx coins i b p (outputs - i) spent) ∙ t) in
             let w = turn-passed coins i outs names (first-input .first) (first-input .others) (first-coin .first) (first-coin .others) (map (outputOf tx) (r .ps)) (same-is ∙ eqs) (rule-is ∙ s .0) in
             let k : outputs - i - 1 ≡ outputs - (i + 1) = omega arith in
             record {
               bound = omega arith;
               few = r .few;
               long = r .long;
-              little = (omega (arith, r .little), omega (arith, r .little));
+              little = (omega (arith, r .little, one-small l), omega (arith, r .little, one-small m));
               xs = first-input .others;
               ps = pair .rest;
               cs = first-coin .others;

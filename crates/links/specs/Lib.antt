@@ -2,5 +2,4 @@ pub mod Rules
 pub mod Verify
 pub mod Paper
 pub mod Workers
-pub mod Walk
 pub mod Samples

@@ -1,11 +1,10 @@
 -- The verifier over two sheets (document 01, "Sheets and reports"): "The transaction sheet is judged whole, then the coin sheet, then the links".
 use Prim.Native.Nat.{ℕ}
 use mathlib.Core.List.{List, [], _∷_}
-use lib.ListN.{replicate}
 use Rattle.primitives.specs.declared.Outpoint.{Outpoint}
-use Rattle.primitives.specs.Outpoints.{outpoint}
-use Rattle.sheets.specs.Sheet.{Judged, whole, refused, transactionOf, coinsOf}
-use Rattle.links.specs.Rules.{Verdict, linked, broken, differs, linksOf}
+use Rattle.primitives.specs.Outpoints.{noOutpoint}
+use Rattle.sheets.specs.Sheet.{Judged, whole, refused, pairOf}
+use Rattle.links.specs.Rules.{Verdict, linked, broken, differs, Rule, rule, linksOf}
 
 -- what is answered: "Summary: inputs; partners accepted in rows Bid to Transfer; spent kinds 1 to 11"; or a refusal by its number and what it carries,
 -- with the side where a sheet was refused, 0 where a rule was broken
@@ -19,22 +18,22 @@ pub record Answer : Type 0 where
   pub expected : Outpoint
   pub actual : Outpoint
 
-abbrev pub noOutpoint : Outpoint
-noOutpoint = outpoint (replicate 32 0) 0
-
 abbrev pub plain : Said → Answer
 plain said = record { said = said; expected = noOutpoint; actual = noOutpoint }
 
-abbrev pub told : Verdict → Answer
-told (linked inputs outputs names) = plain (summary inputs outputs names)
-told (broken k vs) = plain (stopped k vs 0)
-told (differs i expected actual) = record { said = stopped 12 (i ∷ []) 0; expected = expected; actual = actual }
+abbrev pub answerOf : Verdict → Answer
+answerOf (linked inputs outputs names) = plain (summary inputs outputs names)
+answerOf (broken k vs) = plain (stopped k vs 0)
+answerOf (differs i expected actual) = record { said = stopped 12 (i ∷ []) 0; expected = expected; actual = actual }
 
--- what follows a sheet that is not refused
+-- what follows sheets that are not refused
 abbrev pub judgedThen : {A : Type 0} → Judged A → (A → Answer) → Answer
 judgedThen (whole a) f = f a
 judgedThen (refused k vs side) f = plain (stopped k vs side)
 
+abbrev pub verifyWith : Rule → List ℕ → List ℕ → Answer
+verifyWith judge tx coins =
+    judgedThen (pairOf tx coins) (λ pair. answerOf (linksOf judge (pair .0 .inputs) (pair .0 .outputs) (pair .1)))
+
 unfoldable pub verifyOf : List ℕ → List ℕ → Answer
-verifyOf tx coins =
-    judgedThen (transactionOf tx) (λ t. judgedThen (coinsOf coins) (λ cs. told (linksOf (t .inputs) (t .outputs) cs)))
+verifyOf tx coins = verifyWith rule tx coins

@@ -1,80 +1,63 @@
--- Words of the functions that judge one input, and of their proofs; no outsider reads them.
+-- Words of the private functions, which judge one input and walk over two sheets that were judged, and of their proofs;
+-- no outsider reads them.
 use mathlib.Core.Path.{_≡_}
-use Prim.Native.Nat.{ℕ, _+_, _*_, _^_, _≤_, _<_}
-use mathlib.Core.List.{List, [], _∷_}
-use mathlib.Core.Bool.{_&&_}
-use lib.ListN.{length, getD}
-use lib.Dec.{ltb, eqb}
+use Prim.Native.Nat.{ℕ, zero, suc, _+_, _*_, _≤_, _<_, _^_}
+use mathlib.Core.List.{List, [], _∷_, map}
+use mathlib.Core.Bool.{true, false, Bool}
+use lib.Dec.{eqb}
 use Rattle.words.specs.Buffers.{pick}
-use Rattle.words.specs.Sameness.{same}
-use Rattle.refusal.specs.Outcome.{ok}
 use Rattle.refusal.specs.Paper.{numberOf, carried}
-use Rattle.covenants.specs.Items.{Maybe, absent, seekAt}
-use Rattle.covenants.specs.Paper.{spotPaper}
-use Rattle.covenants.specs.declared.items.Spot.{Spot}
-use Rattle.covenants.specs.declared.items.Two.{Two}
-use Rattle.covenants.specs.Covenant.{Reading, covenantAt, bytesIn}
-use Rattle.sheets.specs.Sheet.{Output, itemsFrom}
-use Rattle.links.specs.Rules.{Step, passes, breaks, after, check, oneOf, agree, bidRule, revealRule, ownedRule, transferRule, freeRule, unknownRule, paired}
-use Rattle.links.specs.declared.rows.Sized.{Sized}
-use Rattle.links.specs.declared.rows.Pair.{Pair}
+use Rattle.covenants.specs.Kind.{None, Claim, Open, Bid, Reveal, Redeem, Register, Update, Renew, Transfer, Finalize, Revoke, isName}
+use Rattle.covenants.specs.Items.{Maybe, absent}
+use Rattle.sheets.specs.declared.Place.{Place}
+use Rattle.sheets.specs.Sheet.{Output, outputOf, Coin, itemsFrom, coinOf, inputAt, placeAt, gap, coinAt}
+use Rattle.checks.specs.Checks.{Step, passes, breaks, after, check, sameAddress, nameAndStart, destined}
+use lib.ListN.{length}
+use Rattle.refusal.specs.Outcome.{Outcome, ok, err, manyAt, listOf}
+use Rattle.primitives.specs.declared.Outpoint.{Outpoint}
+use Rattle.checks.specs.Paper.{partnerOf}
+use Rattle.checks.specs.Items.{itemsAt}
+use Rattle.checks.specs.Workers.{Left}
+use Rattle.checks.specs.declared.Partner.{Partner}
+use Rattle.links.specs.Rules.{oneOf, committed, bidRule, revealRule, ownedRule, transferRule, freeRule, unknownRule, paired, rule}
+use Rattle.links.specs.declared.rows.Rest.{Rest}
+use Rattle.links.specs.declared.rows.Gate.{Gate}
 use Rattle.links.specs.declared.rows.TableRow.{TableRow}
+use Rattle.links.specs.declared.rows.Turn.{Turn}
+use Rattle.links.specs.declared.rows.Onward.{Onward}
+use Rattle.links.specs.declared.walk.Beside.{Beside}
 
--- a covenant can be read there
-abbrev pub Readable : List ℕ → ℕ → Type 0
-Readable s at = (c : Reading) × (end : ℕ) × (covenantAt 1000009 s at ≡ ok c end)
+-- ---- a row: what comes before name and start, and what after
 
--- the widths of items 0 and 1
-abbrev pub widthOf : ℕ → ℕ
-widthOf k = pick (eqb k 0) 32 4
+abbrev pub afterwards : Rest → ℕ → Output → Output → Step
+afterwards Rest.Unlinked i spent made = passes false
+afterwards Rest.Linked i spent made = passes true
+afterwards Rest.Address i spent made = check (sameAddress (spent .address) (made .address)) 21 (i ∷ [])
+afterwards Rest.Claimed i spent made = breaks 20 (i ∷ [])
+afterwards Rest.Commitment i spent made = committed i spent made
+afterwards Rest.Destination i spent made = destined i spent made
 
--- what the place of an item of a width says of that item
-abbrev pub Sizes : List ℕ → ℕ → ℕ → ℕ → Sized → Type 0
-Sizes s at k width (Sized.At start) = (start + width ≤ length s) × (getD (itemsFrom s at) k [] ≡ bytesIn s (start, width))
-Sizes s at k width Sized.Other = length (getD (itemsFrom s at) k []) ≡ width → ⊥
+abbrev pub namedThen : Rest → ℕ → Output → Output → Step
+namedThen rest i spent made = after (nameAndStart i (spent .items) (made .items)) (afterwards rest i spent made)
 
--- what the places of two items say of their agreeing, whatever the number for unequal ones
-abbrev pub Pairs : List ℕ → List ℕ → ℕ → ℕ → ℕ → ℕ → ℕ → ℕ → Pair → Type 0
-Pairs coins tx spent made i k width field (Pair.At a b) =
-    (a + width ≤ length coins) × (b + width ≤ length tx)
-    × ((number : ℕ) → agree i k width field number (itemsFrom coins spent) (itemsFrom tx made) ≡ check (same (bytesIn coins (a, width)) (bytesIn tx (b, width))) number (i ∷ []))
-Pairs coins tx spent made i k width field (Pair.Breaks r) =
-    (number : ℕ) → agree i k width field number (itemsFrom coins spent) (itemsFrom tx made) ≡ breaks (numberOf r) (carried r)
+abbrev pub gated : Gate → ℕ → Output → Output → Step
+gated (Gate.Breaks r) i spent made = breaks (numberOf r) (carried r)
+gated Gate.Passes i spent made = passes false
+gated (Gate.Names rest) i spent made = namedThen rest i spent made
 
--- the same of any item that was found where a spot says, in any covenant that can be read
-abbrev pub SpotSizes : Spot → ℕ → Sized → Type 0
-SpotSizes spot width r = (s : List ℕ) (at k : ℕ) → length s < 2 ^ 64 → Readable s at → spotPaper spot ≡ seekAt s at k → Sizes s at k width r
-
-abbrev pub SpotPairs : ℕ → Spot → Spot → ℕ → ℕ → Pair → Type 0
-SpotPairs i a b width field r =
-    (coins tx : List ℕ) (spent made k : ℕ) → (length coins < 2 ^ 64) × (length tx < 2 ^ 64) → Readable coins spent → Readable tx made
-    → spotPaper a ≡ seekAt coins spent k → spotPaper b ≡ seekAt tx made k → Pairs coins tx spent made i k width field r
-
--- the first two items of the covenant that stands there, found together
-abbrev pub FoundTwo : List ℕ → ℕ → Two → Type 0
-FoundTwo s at two = (spotPaper (two .first) ≡ seekAt s at 0) × (spotPaper (two .second) ≡ seekAt s at 1)
-
--- and of item k of both, in any covenants where they were found
-abbrev pub TwoPairs : ℕ → Two → Two → ℕ → ℕ → Pair → Type 0
-TwoPairs i a b k width r =
-    (coins tx : List ℕ) (spent made : ℕ) → (length coins < 2 ^ 64) × (length tx < 2 ^ 64) → Readable coins spent → Readable tx made
-    → FoundTwo coins spent a → FoundTwo tx made b → Pairs coins tx spent made i k width (k * 2 + 1) r
-
--- the end of `destination`, from the transfer's version on
-abbrev pub namedAddress : ℕ → Output → Output → ℕ → Step
-namedAddress i spent made version =
-    after (check (ltb 3 (length (spent .items))) 15 (i ∷ 8 ∷ []))
-    (check (eqb (made .version) version && same (made .hash) (getD (spent .items) 3 [])) 23 (i ∷ []))
+-- a gate says what a row says, wherever both outputs stand
+abbrev pub Gates : (ℕ → Output → Output → Step) → ℕ → Place → Place → Gate → Type 0
+Gates row i spent made gate = (coins tx : List ℕ) → gated gate i (outputOf coins spent) (outputOf tx made) ≡ row i (outputOf coins spent) (outputOf tx made)
 
 -- the row of a spent kind
 abbrev pub rowOf : ℕ → TableRow
 rowOf kind =
-    pick (oneOf kind (0 ∷ 2 ∷ 5 ∷ [])) TableRow.Free
-    (pick (eqb kind 3) TableRow.Bid
-    (pick (oneOf kind (1 ∷ 4 ∷ [])) TableRow.Reveal
-    (pick (oneOf kind (6 ∷ 7 ∷ 8 ∷ 10 ∷ [])) TableRow.Owned
-    (pick (eqb kind 9) TableRow.Transfer
-    (pick (eqb kind 11) TableRow.Revoke TableRow.Unknown)))))
+    pick (oneOf kind (None ∷ Open ∷ Redeem ∷ [])) TableRow.Free
+    (pick (eqb kind Bid) TableRow.Bid
+    (pick (oneOf kind (Claim ∷ Reveal ∷ [])) TableRow.Reveal
+    (pick (oneOf kind (Register ∷ Update ∷ Renew ∷ Finalize ∷ [])) TableRow.Owned
+    (pick (eqb kind Transfer) TableRow.Transfer
+    (pick (eqb kind Revoke) TableRow.Revoke TableRow.Unknown)))))
 
 -- what a row says
 abbrev pub rowRule : TableRow → ℕ → Output → Maybe Output → Step
@@ -89,3 +72,83 @@ rowRule TableRow.Unknown i spent partner = unknownRule i partner
 -- what a row says of any output of a kind that has no partner
 abbrev pub Alone : ℕ → ℕ → TableRow → Step → Type 0
 Alone i kind row step = (spent : Output) → spent .kind ≡ kind → step ≡ rowRule row i spent absent
+
+-- ---- what two sheets hold, by counts and positions
+
+abbrev pub inputsIn : List ℕ → ℕ → List Outpoint
+inputsIn tx n = listOf (manyAt (inputAt tx) n 4)
+
+abbrev pub outputsIn : List ℕ → ℕ → ℕ → List Output
+outputsIn tx left at = map (outputOf tx) (listOf (manyAt (placeAt 0 tx) left at))
+
+abbrev pub coinsIn : List ℕ → ℕ → List Coin
+coinsIn coins n = map (coinOf coins) (listOf (manyAt (coinAt 1 coins) n 4))
+
+-- so many inputs stand behind the head, so many outputs at a position
+abbrev pub Inputs : List ℕ → ℕ → Type 0
+Inputs tx n = (xs : List Outpoint) × (end : ℕ) × (manyAt (inputAt tx) n 4 ≡ ok xs end)
+
+abbrev pub Outputs : List ℕ → ℕ → ℕ → Type 0
+Outputs tx left at = (ps : List Place) × (end : ℕ) × (manyAt (placeAt 0 tx) left at ≡ ok ps end)
+
+-- both sheets can be read, with these counts
+pub record Sheets (tx coins : List ℕ) (inputs outputs n : ℕ) : Type 0 where
+  pub ins : List Outpoint
+  pub outs : List Place
+  pub cs : List (Outpoint × Place)
+  pub ends : ℕ × ℕ × ℕ
+  pub few : 4 + inputs * 36 + outputs < 2 ^ 32
+  pub long : (length tx < 2 ^ 64) × (length coins < 2 ^ 64)
+  pub inputs-read : manyAt (inputAt tx) inputs 4 ≡ ok ins (ends .0)
+  pub outputs-read : manyAt (placeAt 0 tx) outputs (4 + inputs * 36) ≡ ok outs (ends .1)
+  pub coins-read : manyAt (coinAt 1 coins) n 4 ≡ ok cs (ends .2)
+
+-- ---- one input, at its positions
+
+-- its partner, where outputs are left, and where the next output stands
+abbrev pub madeAt : ℕ → Outcome Place → Beside
+madeAt at (ok made next) = record { partner = Partner.Output made; next = next }
+madeAt at (err k vs p) = record { partner = Partner.Missing; next = at }
+
+unfoldable pub partnerAt : ℕ → List ℕ → ℕ → Beside
+partnerAt zero tx at = record { partner = Partner.Missing; next = at }
+partnerAt (suc left) tx at = madeAt at (placeAt 0 tx at)
+
+-- it passes: whether it links an output and spends a name, and where the next coin and the next output stand; or it breaks a rule
+pub data Turned : Type 0 where
+  moves : Bool → Bool → ℕ → ℕ → Turned
+  stops : ℕ → List ℕ → Turned
+
+abbrev pub turned : Step → Bool → ℕ → ℕ → Turned
+turned (passes links) name coin output = moves links name coin output
+turned (breaks k vs) name coin output = stops k vs
+
+abbrev pub spending : List ℕ → List ℕ → ℕ → Beside → Outcome Place → Turned
+spending tx coins i pair (ok spent next) = turned (rule i (outputOf coins spent) (partnerOf tx (pair .partner))) (isName (spent .kind)) next (pair .next)
+spending tx coins i pair (err k vs p) = stops k vs
+
+-- the coin stands at `coin`, the partner at `output`
+unfoldable pub turnAt : List ℕ → List ℕ → ℕ → ℕ → ℕ → ℕ → Turned
+turnAt tx coins i coin output left = spending tx coins i (partnerAt left tx output) (placeAt 1 coins (coin + 36 + gap 1))
+
+-- an input whose items before the k-th agree: what is left of its row gives the whole
+pub record Turning (tx coins : List ℕ) (i : ℕ) (t : Turn) (k : ℕ) (whole : Turned) : Type 0 where
+  pub bound : k ≤ 2
+  pub found : k < 2 → (t .«spent_items» ≡ itemsAt coins (t .spent .covenant)) × (t .«made_items» ≡ itemsAt tx (t .made .covenant))
+  pub rests : turned (after (Left i (itemsFrom coins (t .spent .covenant)) (itemsFrom tx (t .made .covenant)) k) (afterwards (t .rest) i (outputOf coins (t .spent)) (outputOf tx (t .made))))
+      (isName (t .spent .kind)) (t .«next_coin») (t .«next_output») ≡ whole
+
+abbrev pub Ahead : List ℕ → List ℕ → ℕ → Turned → Onward → Type 0
+Ahead tx coins i whole (Onward.Goes t) = Turning tx coins i t (t .first) whole
+Ahead tx coins i whole (Onward.Stop r) = stops (numberOf r) (carried r) ≡ whole
+
+-- one that asks for no name and start; one that does; one without a partner
+abbrev pub FreeTurn : Place → ℕ → ℕ → Turn → Type 0
+FreeTurn spent coin output t = (tx coins : List ℕ) (i : ℕ) → Turning tx coins i t (t .first) (moves false (isName (spent .kind)) coin output)
+
+abbrev pub NamedTurn : List ℕ → List ℕ → Place → Place → Rest → ℕ → ℕ → Turn → Type 0
+NamedTurn tx coins spent made rest coin output t =
+    (i : ℕ) → Turning tx coins i t (t .first) (turned (namedThen rest i (outputOf coins spent) (outputOf tx made)) (isName (spent .kind)) coin output)
+
+abbrev pub LoneTurn : ℕ → Place → ℕ → ℕ → Onward → Type 0
+LoneTurn i spent coin output r = (tx coins : List ℕ) → Ahead tx coins i (turned (rule i (outputOf coins spent) absent) (isName (spent .kind)) coin output) r

@@ -7,15 +7,14 @@ use crate::walk::refused;
 use crate::walk::walk;
 use primitives::Outpoint;
 use refusal::Refusal;
-use sheets::SheetRead;
-use sheets::judge_coins;
-use sheets::judge_transaction;
+use sheets::PairRead;
+use sheets::judge_pair;
 ghost use mathlib.Core.Path.{_≡_};
 ghost use Prim.Native.Nat.{_+_, _*_};
-ghost use Rattle.links.specs.Rules.{coinbase, linksOf};
-ghost use Rattle.links.specs.Verify.{told, verifyOf};
+ghost use Rattle.links.specs.Rules.{coinbase, rule, linksOf};
+ghost use Rattle.links.specs.Verify.{answerOf, verifyOf};
 ghost use Rattle.links.specs.Paper.{verifiedPaper};
-ghost use Rattle.links.specs.Walk.{inputsIn, outputsIn, coinsIn, Inputs, Sheets};
+ghost use Rattle.links.specs.Workers.{inputsIn, outputsIn, coinsIn, Inputs, Sheets};
 
 pub struct CovenantLinkSummary {
     pub inputs_checked: usize,
@@ -50,7 +49,7 @@ fn is_coinbase(tx: &[u8], n: usize) -> bool
 // The links of two sheets that were judged.
 fn judged_links(tx: &[u8], coins: &[u8], inputs: usize, outputs: usize, n: usize) -> Verified
     requires { ⌜ Sheets (now tx) (now coins) inputs outputs n ⌝ }
-    ensures { λ r. ⌜ verifiedPaper r ≡ told (linksOf (inputsIn (now (tx .entry)) inputs) (outputsIn (now (tx .entry)) outputs (4 + inputs * 36)) (coinsIn (now (coins .entry)) n)) ⌝ }
+    ensures { λ r. ⌜ verifiedPaper r ≡ answerOf (linksOf rule (inputsIn (now (tx .entry)) inputs) (outputsIn (now (tx .entry)) outputs (4 + inputs * 36)) (coinsIn (now (coins .entry)) n)) ⌝ }
 {
     if is_coinbase(tx, inputs) {
         return refused(Refusal::CoinbaseRequiresIssuanceVerifier, 0);
@@ -65,20 +64,19 @@ fn judged_links(tx: &[u8], coins: &[u8], inputs: usize, outputs: usize, n: usize
     walk(tx, coins, inputs, outputs)
 }
 
-// The transaction sheet is judged whole, then the coin sheet, then the links.
+// Both sheets are judged, then the links.
 pub fn verify_covenant_links(tx: &[u8], coins: &[u8]) -> Verified
     ensures { λ r. ⌜ verifiedPaper r ≡ verifyOf (now (tx .entry)) (now (coins .entry)) ⌝ }
 {
-    match judge_transaction(&tx[..]) {
-        SheetRead::Counts(inputs, outputs) => match judge_coins(&coins[..]) {
-            SheetRead::Counts(n, _) => {
-                return judged_links(&tx[..], &coins[..], inputs, outputs, n);
-            }
-            SheetRead::Refused { refusal, side } => {
-                return refused(refusal, side);
-            }
-        },
-        SheetRead::Refused { refusal, side } => {
+    match judge_pair(&tx[..], &coins[..]) {
+        PairRead::Counts {
+            inputs,
+            outputs,
+            coins: n,
+        } => {
+            return judged_links(&tx[..], &coins[..], inputs, outputs, n);
+        }
+        PairRead::Refused { refusal, side } => {
             return refused(refusal, side);
         }
     }

@@ -10,6 +10,7 @@ fn report(file: &[u8]) {
         Put::Written(m) => {
             io::write_all(STDOUT_FILENO, &line[..m]);
         }
+        // Never: every line fits (NameLineFits of reports).
         Put::Refused(_) => {}
     }
 }

@@ -41,22 +41,30 @@ five a b c d f e =
     let y = four a b c d (x .0) in
     (y .0, y .1, y .2, y .3, x .1)
 
+six : (a b c d f g : Bool) → (a && b && c && d && f && g) ≡ true → (a ≡ true) × (b ≡ true) × (c ≡ true) × (d ≡ true) × (f ≡ true) × (g ≡ true)
+six a b c d f g e =
+    let x = and-true (a && b && c && d && f) g e in
+    let y = five a b c d f (x .0) in
+    (y .0, y .1, y .2, y .3, y .4, x .1)
+
 pub same-is-equal : SameIsEqual
 unfolding sameState
 same-is-equal t u = (
   (λ e.
-      let p = five (same (t .key) (u .key) && same (t .name) (u .name) && same (t .resource) (u .resource))
-      (eqb (t .height) (u .height) && eqb (t .renewal) (u .renewal) && eqb (t .value) (u .value) && eqb (t .highest) (u .highest))
+      let p = six (same (t .key) (u .key) && same (t .name) (u .name) && same (t .resource) (u .resource))
+      (eqb (t .height) (u .height) && eqb (t .renewal) (u .renewal))
+      (eqb (t .value) (u .value) && eqb (t .highest) (u .highest))
       (eqb (t .transfer) (u .transfer) && eqb (t .revoked) (u .revoked) && eqb (t .claimed) (u .claimed) && eqb (t .renewals) (u .renewals))
       (sameOutpoint (t .owner) (u .owner))
       (Bool·beq (t .registered) (u .registered) && Bool·beq (t .expired) (u .expired) && Bool·beq (t .weak) (u .weak)) e in
       let a = three (same (t .key) (u .key)) (same (t .name) (u .name)) (same (t .resource) (u .resource)) (p .0) in
-      let b = four (eqb (t .height) (u .height)) (eqb (t .renewal) (u .renewal)) (eqb (t .value) (u .value)) (eqb (t .highest) (u .highest)) (p .1) in
-      let c = four (eqb (t .transfer) (u .transfer)) (eqb (t .revoked) (u .revoked)) (eqb (t .claimed) (u .claimed)) (eqb (t .renewals) (u .renewals)) (p .2) in
-      let d = three (Bool·beq (t .registered) (u .registered)) (Bool·beq (t .expired) (u .expired)) (Bool·beq (t .weak) (u .weak)) (p .4) in
-      let o = outpoints.same-is-equal (t .owner) (u .owner) .0 (p .3) in
+      let h = and-true (eqb (t .height) (u .height)) (eqb (t .renewal) (u .renewal)) (p .1) in
+      let b = and-true (eqb (t .value) (u .value)) (eqb (t .highest) (u .highest)) (p .2) in
+      let c = four (eqb (t .transfer) (u .transfer)) (eqb (t .revoked) (u .revoked)) (eqb (t .claimed) (u .claimed)) (eqb (t .renewals) (u .renewals)) (p .3) in
+      let d = three (Bool·beq (t .registered) (u .registered)) (Bool·beq (t .expired) (u .expired)) (Bool·beq (t .weak) (u .weak)) (p .5) in
+      let o = outpoints.same-is-equal (t .owner) (u .owner) .0 (p .4) in
       made t u (same-true (t .key) (u .key) (a .0)) (same-true (t .name) (u .name) (a .1)) (same-true (t .resource) (u .resource) (a .2))
-      (eqb-true _ _ (b .0)) (eqb-true _ _ (b .1)) (eqb-true _ _ (b .2)) (eqb-true _ _ (b .3))
+      (eqb-true _ _ (h .0)) (eqb-true _ _ (h .1)) (eqb-true _ _ (b .0)) (eqb-true _ _ (b .1))
       (eqb-true _ _ (c .0)) (eqb-true _ _ (c .1)) (eqb-true _ _ (c .2)) (eqb-true _ _ (c .3)) o
       (beq-true _ _ (d .0)) (beq-true _ _ (d .1)) (beq-true _ _ (d .2))),
   (λ e. rw e (itself u)),

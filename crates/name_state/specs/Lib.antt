@@ -1,3 +1,4 @@
 pub mod State
 pub mod Paper
 pub mod Theorems
+pub mod Workers

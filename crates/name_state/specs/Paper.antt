@@ -6,11 +6,14 @@ use lib.ListN.{length, take, replicate}
 use Rattle.words.specs.Buffers.{pick, padded}
 use Rattle.primitives.specs.declared.Outpoint.{Outpoint}
 use Rattle.primitives.specs.Outpoints.{outpoint, nullOutpoint, isNull}
-use Rattle.name_state.specs.State.{State, null}
+use Rattle.names.specs.Name.{maxNameSize}
+use Rattle.name_state.specs.State.{State, maxResourceSize, null}
 use Rattle.name_state.specs.declared.NameState.{NameState}
 use Rattle.name_state.specs.declared.Owner.{Owner}
 use Rattle.name_state.specs.declared.Class.{Class}
-use Rattle.name_state.specs.declared.Binding.{Binding}
+use Rattle.name_state.specs.declared.Heights.{Heights}
+use Rattle.name_state.specs.declared.Amounts.{Amounts}
+use Rattle.name_state.specs.declared.Times.{Times}
 
 -- the first n bytes of an array, "bytes past either length .. are ignored"; where n is more than the array has, zeros stand for the others
 unfoldable pub text : ℕ → List ℕ → List ℕ
@@ -42,9 +45,9 @@ abbrev pub stored : State → NameState
 stored t =
     record {
       «name_hash» = record { 0 = t .key };
-      name = padded 63 (t .name);
+      name = padded maxNameSize (t .name);
       «name_length» = length (t .name);
-      «resource_data» = padded 512 (t .resource);
+      «resource_data» = padded maxResourceSize (t .resource);
       «resource_length» = length (t .resource);
       height = record { 0 = t .height };
       renewal = record { 0 = t .renewal };
@@ -93,11 +96,15 @@ ownerOf t = pick (isNull (t .owner)) (record { held = false; outpoint = outpoint
 abbrev pub classOf : State → Class
 classOf t = pick (null t) Class.Null (pick (isNull (t .owner)) Class.Free Class.Held)
 
--- the number of the refusal, 0 for none
-abbrev pub boundPaper : Binding → ℕ
-boundPaper Binding.Bound = 0
-boundPaper Binding.NoName = 6
-boundPaper Binding.OtherKey = 9
+-- the fields that go together, each of its kind
+abbrev pub heightsOf : State → Heights
+heightsOf t = record { height = record { 0 = t .height }; renewal = record { 0 = t .renewal } }
+
+abbrev pub amountsOf : State → Amounts
+amountsOf t = record { value = record { 0 = t .value }; highest = record { 0 = t .highest } }
+
+abbrev pub timesOf : State → Times
+timesOf t = record { transfer = record { 0 = t .transfer }; revoked = record { 0 = t .revoked }; claimed = record { 0 = t .claimed }; renewals = t .renewals }
 
 -- the class as a number, where no enum can stand
 abbrev pub classNumber : Class → ℕ

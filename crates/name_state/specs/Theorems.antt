@@ -3,7 +3,8 @@ use mathlib.Core.Path.{_≡_}
 use Prim.Native.Nat.{_≤_}
 use mathlib.Core.Bool.{true}
 use lib.ListN.{length}
-use Rattle.name_state.specs.State.{State, sameState}
+use Rattle.names.specs.Name.{maxNameSize}
+use Rattle.name_state.specs.State.{State, maxResourceSize, sameState}
 use Rattle.name_state.specs.Paper.{stateOf, stored}
 
 -- `same` says true of equal states alone
@@ -12,4 +13,4 @@ SameIsEqual = (t u : State) → (sameState t u ≡ true → t ≡ u) × (t ≡ u
 
 -- what is made of a state that fits its arrays holds that state
 abbrev pub StoredHolds : Type 0
-StoredHolds = (t : State) → length (t .name) ≤ 63 → length (t .resource) ≤ 512 → stateOf (stored t) ≡ t
+StoredHolds = (t : State) → length (t .name) ≤ maxNameSize → length (t .resource) ≤ maxResourceSize → stateOf (stored t) ≡ t

@@ -1,6 +1,7 @@
 // Whether two states are the same: the Rust's `==`. Bytes past the lengths are not compared.
 use crate::NameState;
-use crate::equal_numbers;
+use crate::equal_amounts;
+use crate::equal_heights;
 use crate::equal_times;
 use words::same::same_bytes;
 ghost use mathlib.Core.Path.{_≡_};
@@ -78,28 +79,13 @@ impl NameState {
         if !self.same_texts(other) {
             return false;
         }
-        if !equal_numbers(
-            self.height.0,
-            other.height.0,
-            self.renewal.0,
-            other.renewal.0,
-            self.value.0,
-            other.value.0,
-            self.highest.0,
-            other.highest.0,
-        ) {
+        if !equal_heights(self.heights(), other.heights()) {
             return false;
         }
-        if !equal_times(
-            self.transfer.0,
-            other.transfer.0,
-            self.revoked.0,
-            other.revoked.0,
-            self.claimed.0,
-            other.claimed.0,
-            self.renewals,
-            other.renewals,
-        ) {
+        if !equal_amounts(self.amounts(), other.amounts()) {
+            return false;
+        }
+        if !equal_times(self.times(), other.times()) {
             return false;
         }
         let owner = self.owner;

@@ -5,15 +5,20 @@ use primitives::Height;
 use primitives::NameHash;
 use primitives::Outpoint;
 use primitives::TransactionHash;
+use refusal::Judgement;
+use refusal::Refusal;
 use words::same::same_bytes;
 ghost use mathlib.Core.Path.{_≡_};
-ghost use mathlib.Core.Bool.{_&&_};
 ghost use mathlib.Core.List.{[]};
-ghost use Prim.Native.Nat.{ℕ, _≤_};
-ghost use lib.Dec.{eqb};
+ghost use Prim.Native.Nat.{_≤_};
+ghost use Rattle.words.specs.Buffers.{pick};
+ghost use Rattle.words.specs.Sameness.{same};
+ghost use Rattle.refusal.specs.Outcome.{ok, err};
+ghost use Rattle.refusal.specs.Paper.{judgementPaper};
 ghost use Rattle.names.specs.Name.{nameHash};
 ghost use Rattle.name_state.specs.State.{null, bit, bitmap, keyed, binding};
-ghost use Rattle.name_state.specs.Paper.{text, stateOf, stored, nullState, ownerOf, classOf, boundPaper};
+ghost use Rattle.name_state.specs.Paper.{text, stateOf, stored, nullState, ownerOf, classOf, heightsOf, amountsOf, timesOf};
+ghost use Rattle.name_state.specs.Workers.{sameHeights, sameAmounts, sameTimes};
 
 pub mod comparison;
 
@@ -52,34 +57,80 @@ pub enum Class {
     Free,
 }
 
-// Whether the name of a state is bound to its key, or why not.
-pub enum Binding {
-    Bound,
-    NoName,
-    OtherKey,
+// A state's height and renewal.
+pub struct Heights {
+    pub height: Height,
+    pub renewal: Height,
 }
 
-// Four pairs of equal numbers: two heights and two amounts.
-pub(crate) fn equal_numbers(a: u32, x: u32, b: u32, y: u32, c: u64, z: u64, d: u64, w: u64) -> bool
-    ensures { λ r. ⌜ r ≡ (eqb a x && eqb b y && eqb c z && eqb d w) ⌝ }
-{
-    if a != x {
-        return false;
-    }
-    if b != y {
-        return false;
-    }
-    if c != z {
-        return false;
-    }
-    d == w
+// A state's value and highest.
+pub struct Amounts {
+    pub value: Dollarydoos,
+    pub highest: Dollarydoos,
 }
 
-// Four pairs of equal numbers: three heights and a count.
-pub(crate) fn equal_times(a: u32, x: u32, b: u32, y: u32, c: u32, z: u32, d: u32, w: u32) -> bool
-    ensures { λ r. ⌜ r ≡ (eqb a x && eqb b y && eqb c z && eqb d w) ⌝ }
+// A state's transfer, revoked, claimed and renewals.
+pub struct Times {
+    pub transfer: Height,
+    pub revoked: Height,
+    pub claimed: Height,
+    pub renewals: u32,
+}
+
+impl Heights {
+    pub const ZERO: Heights = Heights {
+        height: Height(0),
+        renewal: Height(0),
+    };
+}
+
+impl Amounts {
+    pub const ZERO: Amounts = Amounts {
+        value: Dollarydoos(0),
+        highest: Dollarydoos(0),
+    };
+}
+
+impl Times {
+    pub const ZERO: Times = Times {
+        transfer: Height(0),
+        revoked: Height(0),
+        claimed: Height(0),
+        renewals: 0,
+    };
+}
+
+pub(crate) fn equal_heights(a: Heights, b: Heights) -> bool
+    ensures { λ r. ⌜ r ≡ sameHeights a b ⌝ }
 {
-    equal_numbers(a, x, b, y, c as u64, z as u64, d as u64, w as u64)
+    if a.height.0 != b.height.0 {
+        return false;
+    }
+    a.renewal.0 == b.renewal.0
+}
+
+pub(crate) fn equal_amounts(a: Amounts, b: Amounts) -> bool
+    ensures { λ r. ⌜ r ≡ sameAmounts a b ⌝ }
+{
+    if a.value.0 != b.value.0 {
+        return false;
+    }
+    a.highest.0 == b.highest.0
+}
+
+pub(crate) fn equal_times(a: Times, b: Times) -> bool
+    ensures { λ r. ⌜ r ≡ sameTimes a b ⌝ }
+{
+    if a.transfer.0 != b.transfer.0 {
+        return false;
+    }
+    if a.revoked.0 != b.revoked.0 {
+        return false;
+    }
+    if a.claimed.0 != b.claimed.0 {
+        return false;
+    }
+    a.renewals == b.renewals
 }
 
 // The weight of a bit that is set, else 0.
@@ -92,24 +143,35 @@ fn flag(present: bool, weight: u16) -> u16
     0
 }
 
-// The key is the hash of the name, which is hashed here once.
-fn name_binding(name: [u8; 63], n: usize, key: NameHash) -> Binding
-    ensures { λ r. ⌜ boundPaper r ≡ keyed (nameHash (text n name)) (key .0) ⌝ }
+// The name's hash is the key.
+fn key_binding(hash: NameHash, key: NameHash) -> Judgement
+    ensures { λ r. ⌜ judgementPaper r ≡ pick (same (hash .0) (key .0)) (ok tt 0) (err 9 [] 0) ⌝ }
 {
-    if NameState::MAX_NAME_SIZE < n {
-        return Binding::NoName;
-    }
-    let hashed = hash_name(&name[..n]);
-    if !hashed.valid {
-        return Binding::NoName;
-    }
-    let found = hashed.hash;
-    let a = found.0;
+    let a = hash.0;
     let b = key.0;
     if same_bytes(&a, &b) {
-        return Binding::Bound;
+        return Judgement::Passes;
     }
-    Binding::OtherKey
+    Judgement::Refused(Refusal::NameStateHashMismatch)
+}
+
+// The key is the hash of the name, which is hashed here once.
+fn name_binding(name: [u8; 63], n: usize, key: NameHash) -> Judgement
+    ensures { λ r. ⌜ judgementPaper r ≡ keyed (nameHash (text n name)) (key .0) ⌝ }
+{
+    if NameState::MAX_NAME_SIZE < n {
+        return Judgement::Refused(Refusal::InvalidName);
+    }
+    let hashed = hash_name(&name[..n]);
+    let judgement = hashed.judgement;
+    match judgement {
+        Judgement::Passes => {
+            return key_binding(hashed.hash, key);
+        }
+        Judgement::Refused(_) => {
+            return judgement;
+        }
+    }
 }
 
 impl NameState {
@@ -146,31 +208,46 @@ impl NameState {
         }
     }
 
+    pub fn heights(self) -> Heights
+        ensures { λ r. ⌜ r ≡ heightsOf (stateOf self) ⌝ }
+    {
+        let height = self.height;
+        let renewal = self.renewal;
+        Heights { height, renewal }
+    }
+
+    pub fn amounts(self) -> Amounts
+        ensures { λ r. ⌜ r ≡ amountsOf (stateOf self) ⌝ }
+    {
+        let value = self.value;
+        let highest = self.highest;
+        Amounts { value, highest }
+    }
+
+    pub fn times(self) -> Times
+        ensures { λ r. ⌜ r ≡ timesOf (stateOf self) ⌝ }
+    {
+        let transfer = self.transfer;
+        let revoked = self.revoked;
+        let claimed = self.claimed;
+        Times {
+            transfer,
+            revoked,
+            claimed,
+            renewals: self.renewals,
+        }
+    }
+
     pub fn is_null(self) -> bool
         ensures { λ r. ⌜ r ≡ null (stateOf self) ⌝ }
     {
-        if !equal_numbers(
-            self.height.0,
-            0,
-            self.renewal.0,
-            0,
-            self.value.0,
-            0,
-            self.highest.0,
-            0,
-        ) {
+        if !equal_heights(self.heights(), Heights::ZERO) {
             return false;
         }
-        if !equal_times(
-            self.transfer.0,
-            0,
-            self.revoked.0,
-            0,
-            self.claimed.0,
-            0,
-            self.renewals,
-            0,
-        ) {
+        if !equal_amounts(self.amounts(), Amounts::ZERO) {
+            return false;
+        }
+        if !equal_times(self.times(), Times::ZERO) {
             return false;
         }
         if self.resource_length != 0 {
@@ -238,11 +315,12 @@ impl NameState {
     }
 
     // Nothing binds a null state.
-    pub fn validate_key_binding(self) -> Binding
-        ensures { λ r. ⌜ boundPaper r ≡ binding (stateOf self) ⌝ }
+    pub fn validate_key_binding(self) -> Judgement
+        ensures { λ r. ⌜ judgementPaper r ≡ binding (stateOf self) ⌝ }
     {
-        if self.is_null() {
-            return Binding::Bound;
+        let unbound = self.is_null();
+        if unbound {
+            return Judgement::Passes;
         }
         let name = self.name;
         name_binding(name, self.name_length, self.name_hash)

@@ -1,6 +1,8 @@
 // The name rule, the name hash and the blind commitment (document 01, module 5).
 use primitives::Dollarydoos;
 use primitives::NameHash;
+use refusal::Judgement;
+use refusal::Refusal;
 use words::same::same_bytes;
 ghost use mathlib.Core.Path.{_≡_};
 ghost use mathlib.Core.Bool.{true, false, _&&_, _||_};
@@ -14,26 +16,26 @@ pub const MAX_NAME_SIZE: usize = 63;
 fn is_plain(b: u8) -> bool
     ensures { λ r. ⌜ r ≡ plain b ⌝ }
 {
-    if b < 48 {
+    if b < b'0' {
         return false;
     }
-    if b <= 57 {
+    if b <= b'9' {
         return true;
     }
-    if b < 97 {
+    if b < b'a' {
         return false;
     }
-    b <= 122
+    b <= b'z'
 }
 
 // "`-` and `_`".
 fn is_mark(b: u8) -> bool
     ensures { λ r. ⌜ r ≡ mark b ⌝ }
 {
-    if b == 45 {
+    if b == b'-' {
         return true;
     }
-    b == 95
+    b == b'_'
 }
 
 // One of the bytes that a name may have.
@@ -100,9 +102,9 @@ pub fn validate_name(name: &[u8]) -> bool
     !is_reserved(name)
 }
 
-// A name's hash; where the bytes are no name, which the Rust refuses by `InvalidName`, zeros.
+// Whether the bytes are a name, and its hash; zeros where they are none.
 pub struct Hashed {
-    pub valid: bool,
+    pub judgement: Judgement,
     pub hash: NameHash,
 }
 
@@ -111,13 +113,14 @@ pub fn hash_name(name: &[u8]) -> Hashed
 {
     if !validate_name(name) {
         return Hashed {
-            valid: false,
+            judgement: Judgement::Refused(Refusal::InvalidName),
             hash: NameHash([0u8; 32]),
         };
     }
+    let digest = sha3::sha3_256(name);
     Hashed {
-        valid: true,
-        hash: NameHash(sha3::sha3_256(name)),
+        judgement: Judgement::Passes,
+        hash: NameHash(digest),
     }
 }
 

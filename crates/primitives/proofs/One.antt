@@ -5,9 +5,10 @@ use mathlib.Core.Bool.{Bool}
 use mathlib.Core.List.{List}
 use Rattle.words.proofs.One.{one}
 use Rattle.refusal.specs.Outcome.{Outcome}
+use Rattle.refusal.specs.declared.Stop.{Stop}
 use Rattle.encoding.proofs.Same.{moved-same}
 use Rattle.primitives.specs.Units.{sumOf, differenceOf}
-use Rattle.primitives.specs.Outpoints.{sameOutpoint, isNull, outpointBytes, outpointAt, outpointPaper, shownOutpoint}
+use Rattle.primitives.specs.Outpoints.{sameOutpoint, isNull, outpointBytes, outpointAt, outpointPaper, shownOutpoint, refusedOutpoint}
 use Rattle.primitives.specs.declared.Dollarydoos.{Dollarydoos}
 use Rattle.primitives.specs.declared.Checked.{Checked}
 use Rattle.primitives.specs.declared.Outpoint.{Outpoint}
@@ -35,3 +36,6 @@ outpoint-same e =
 
 pub decode-one : (s : List ℕ) (at : ℕ) {r r′ : ReadOutpoint} → outpointPaper r ≡ shownOutpoint (outpointAt s at) → outpointPaper r′ ≡ shownOutpoint (outpointAt s at) → r ≡ r′
 decode-one s at e f = outpoint-same (one e f)
+
+pub refused-one : (stop : Stop) {r r′ : ReadOutpoint} → r ≡ refusedOutpoint stop → r′ ≡ refusedOutpoint stop → r ≡ r′
+refused-one stop = one

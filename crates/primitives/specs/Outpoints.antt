@@ -7,6 +7,7 @@ use lib.Dec.{eqb}
 use Rattle.words.specs.Words.{bytes}
 use Rattle.words.specs.Sameness.{same}
 use Rattle.refusal.specs.Outcome.{Outcome, ok, err, then}
+use Rattle.refusal.specs.declared.Stop.{Stop}
 use Rattle.encoding.specs.Wire.{bytesAt, fixedAt}
 use Rattle.encoding.specs.Paper.{movedPaper}
 use Rattle.encoding.specs.declared.read.Moved.{Moved}
@@ -40,10 +41,15 @@ outpointAt s at = then (bytesAt 32 s at) (λ hash next. then (fixedAt 4 s next) 
 abbrev pub outpointPaper : ReadOutpoint → Outcome Unit × Outpoint
 outpointPaper r = (movedPaper (r .moved), r .outpoint)
 
--- what is handed out: the outpoint beside the outcome; "Unused parts of an answer are zeros"
+-- "Unused parts of an answer are zeros": what stands where there is no outpoint
+abbrev pub noOutpoint : Outpoint
+noOutpoint = outpoint (replicate 32 0) 0
+
+-- what is handed out: the outpoint beside the outcome
 abbrev pub shownOutpoint : Outcome Outpoint → Outcome Unit × Outpoint
 shownOutpoint (ok p next) = (ok tt next, p)
-shownOutpoint (err k vs p) = (err k vs p, outpoint (replicate 32 0) 0)
+shownOutpoint (err k vs p) = (err k vs p, noOutpoint)
 
-abbrev pub noOutpoint : Moved → ReadOutpoint
-noOutpoint moved = record { moved = moved; outpoint = outpoint (replicate 32 0) 0 }
+-- the answer of a read that was refused
+abbrev pub refusedOutpoint : Stop → ReadOutpoint
+refusedOutpoint stop = record { moved = Moved.Refused stop; outpoint = noOutpoint }

@@ -2,12 +2,13 @@
 use encoding::read::Cursor;
 use encoding::read::Moved;
 use encoding::read::ReadU32;
+use refusal::Stop;
 use words::same::same_bytes;
 use words::store::put_bytes;
 use words::store::put_le;
 ghost use mathlib.Core.Path.{_≡_};
 ghost use Rattle.primitives.specs.Units.{sumOf, differenceOf};
-ghost use Rattle.primitives.specs.Outpoints.{sameOutpoint, isNull, outpointBytes, outpointAt, outpointPaper, shownOutpoint, noOutpoint};
+ghost use Rattle.primitives.specs.Outpoints.{sameOutpoint, isNull, outpointBytes, outpointAt, outpointPaper, shownOutpoint, refusedOutpoint};
 
 // An amount, in millionths of a coin.
 #[repr(C)]
@@ -74,6 +75,12 @@ impl Outpoint {
         index: 4294967295,
     };
 
+    // What stands in an answer where there is no outpoint.
+    pub const NONE: Outpoint = Outpoint {
+        transaction_hash: TransactionHash([0u8; 32]),
+        index: 0,
+    };
+
     // Whether two outpoints are the same: the Rust's `==`.
     pub fn same(self, other: Outpoint) -> bool
         ensures { λ r. ⌜ r ≡ sameOutpoint self other ⌝ }
@@ -128,23 +135,22 @@ impl Outpoint {
                             index,
                         },
                     },
-                    ReadU32::Refused(stop) => refused(Moved::Refused(stop)),
+                    ReadU32::Refused(stop) => ReadOutpoint::refused(stop),
                 }
             }
-            Moved::Refused(stop) => refused(Moved::Refused(stop)),
+            Moved::Refused(stop) => ReadOutpoint::refused(stop),
         }
     }
 }
 
-// A refused outpoint.
-fn refused(moved: Moved) -> ReadOutpoint
-    ensures { λ r. ⌜ r ≡ noOutpoint moved ⌝ }
-{
-    ReadOutpoint {
-        moved,
-        outpoint: Outpoint {
-            transaction_hash: TransactionHash([0u8; 32]),
-            index: 0,
-        },
+impl ReadOutpoint {
+    // A read that was refused.
+    pub fn refused(stop: Stop) -> ReadOutpoint
+        ensures { λ r. ⌜ r ≡ refusedOutpoint stop ⌝ }
+    {
+        ReadOutpoint {
+            moved: Moved::Refused(stop),
+            outpoint: Outpoint::NONE,
+        }
     }
 }

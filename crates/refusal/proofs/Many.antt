@@ -5,7 +5,7 @@ use native.Mathlib.Omega.{arith}
 use mathlib.Core.Logic.{⊎-elim}
 use mathlib.Core.List.{List, [], _∷_, _++_, List·Memᴰ, List·Memᴰ·not-nil, List·Memᴰ·cases-cons}
 use lib.ListN.{length}
-use Rattle.refusal.specs.Outcome.{Outcome, ok, err, then, manyAt, past}
+use Rattle.refusal.specs.Outcome.{Stand, Outcome, ok, err, then, manyAt, past}
 use Rattle.refusal.proofs.Outcomes.{then-ok, past-then}
 
 module _ {A : Type 0} (read : ℕ → Outcome A) where
@@ -63,7 +63,7 @@ module _ {A : Type 0} (read : ℕ → Outcome A) where
     pub more : {x : A} {next : ℕ} → i < n → read at ≡ ok x next → Passing n from next (i + 1)
     more h e = record { bound = omega arith; rest = sym (again h e) ∙ r .rest }
 
-    pub stopped : {k : ℕ} {vs : List ℕ} {p : ℕ} → i < n → read at ≡ err k vs p → past (manyAt read n from) ≡ err k vs p
+    pub stopped : {k : ℕ} {vs : List ℕ} {p : Stand} → i < n → read at ≡ err k vs p → past (manyAt read n from) ≡ err k vs p
     unfolding manyAt
     stopped h e =
         let k : n - i ≡ suc (n - (i + 1)) = omega arith in

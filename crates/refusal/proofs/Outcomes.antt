@@ -5,14 +5,14 @@ use native.Mathlib.Omega.{arith}
 use mathlib.Core.List.{List}
 use mathlib.Core.Bool.{Bool, true, false}
 use Rattle.words.specs.Buffers.{pick}
-use Rattle.refusal.specs.Outcome.{Outcome, ok, err, then, past, Wrote, wrote, refused, next}
+use Rattle.refusal.specs.Outcome.{Stand, Outcome, ok, err, then, past, Wrote, wrote, refused, next}
 
 -- `f r ≡ y` is what a callee ensures, and `r ≡ r′` what the arm of a match knows: y is what f says of r′
 pub told : {X Y : Type 0} (f : X → Y) {r r′ : X} {y : Y} → f r ≡ y → r ≡ r′ → y ≡ f r′
 told f e k = sym e ∙ ap f k
 
 -- an outcome is not both a value and a refusal
-pub never : {A : Type 0} {o : Outcome A} {a : A} {p : ℕ} {k : ℕ} {vs : List ℕ} {q : ℕ} → o ≡ ok a p → o ≡ err k vs q → ⊥
+pub never : {A : Type 0} {o : Outcome A} {a : A} {p : ℕ} {k : ℕ} {vs : List ℕ} {q : Stand} → o ≡ ok a p → o ≡ err k vs q → ⊥
 never e f = let z : _≡_ {A = ℕ} 0 1 = cc in omega arith
 
 -- two reads that gave a value: the first gave one, and then the second
@@ -21,12 +21,12 @@ then-ok (ok a p) e = (a, p, refl, e)
 then-ok (err k vs p) {f} {b} {q} e = absurd (never e refl)
 
 -- a test that refuses, passed
-pub passed : {A : Type 0} (t : Bool) (k : ℕ) (vs : List ℕ) (q : ℕ) (o : Outcome A) {a : A} {p : ℕ} → pick t (err k vs q) o ≡ ok a p → (t ≡ false) × (o ≡ ok a p)
+pub passed : {A : Type 0} (t : Bool) (k : ℕ) (vs : List ℕ) (q : Stand) (o : Outcome A) {a : A} {p : ℕ} → pick t (err k vs q) o ≡ ok a p → (t ≡ false) × (o ≡ ok a p)
 passed true k vs q o e = absurd (never e refl)
 passed false k vs q o e = (refl, e)
 
 -- a refused read, and what was to come after it
-pub then-err : {A B : Type 0} (o : Outcome A) (f : A → ℕ → Outcome B) {k : ℕ} {vs : List ℕ} {q : ℕ} → past o ≡ err k vs q → then o f ≡ err k vs q
+pub then-err : {A B : Type 0} (o : Outcome A) (f : A → ℕ → Outcome B) {k : ℕ} {vs : List ℕ} {q : Stand} → past o ≡ err k vs q → then o f ≡ err k vs q
 then-err (ok a p) f e = absurd (never refl e)
 then-err (err k vs p) f e = cc
 
@@ -35,7 +35,7 @@ pub past-ok : {A : Type 0} (o : Outcome A) {q : ℕ} {u : Unit} → past o ≡ o
 past-ok (ok a p) {q} e = let h : p ≡ q = cc in (a, ap (ok a) h)
 past-ok (err k vs p) e = absurd (never e refl)
 
-pub past-err : {A : Type 0} (o : Outcome A) {k : ℕ} {vs : List ℕ} {q : ℕ} → past o ≡ err k vs q → o ≡ err k vs q
+pub past-err : {A : Type 0} (o : Outcome A) {k : ℕ} {vs : List ℕ} {q : Stand} → past o ≡ err k vs q → o ≡ err k vs q
 past-err (ok a p) e = absurd (never refl e)
 past-err (err k vs p) e = cc
 
@@ -55,7 +55,7 @@ then-past (ok a p) f {u} {q} e = let h : p ≡ q = cc in ap f h
 then-past (err k vs p) f e = absurd (never e refl)
 
 -- a test that refuses where it fails, passed
-pub kept : {A : Type 0} (t : Bool) (k : ℕ) (vs : List ℕ) (q : ℕ) (o : Outcome A) {a : A} {p : ℕ} → pick t o (err k vs q) ≡ ok a p → (t ≡ true) × (o ≡ ok a p)
+pub kept : {A : Type 0} (t : Bool) (k : ℕ) (vs : List ℕ) (q : Stand) (o : Outcome A) {a : A} {p : ℕ} → pick t o (err k vs q) ≡ ok a p → (t ≡ true) × (o ≡ ok a p)
 kept true k vs q o e = (refl, e)
 kept false k vs q o e = absurd (never e refl)
 
@@ -83,7 +83,7 @@ module _ {A B C : Type 0} (o : Outcome A) (f : ℕ → Outcome B) (both : A → 
       go (ok a q) e = let h : q ≡ p = cc in rw h (past-then (f p) (both a))
       go (err k vs q) e = absurd (never e refl)
 
-  pub past-cut : {k : ℕ} {vs : List ℕ} {p : ℕ} → past o ≡ err k vs p → past Both ≡ err k vs p
+  pub past-cut : {k : ℕ} {vs : List ℕ} {p : Stand} → past o ≡ err k vs p → past Both ≡ err k vs p
   past-cut e = ap past (then-err o (λ a p. then (f p) (λ b q. ok (both a b) q)) e)
 
 -- ---- writes

@@ -5,10 +5,11 @@ use mathlib.Core.List.{List}
 use lib.ListN.{getD}
 use lib.Dec.{eqb}
 use Rattle.words.specs.Buffers.{pick}
-use Rattle.refusal.specs.Outcome.{Outcome, err}
-use Rattle.refusal.specs.Paper.{numberOf, carried, stopped}
+use Rattle.refusal.specs.Outcome.{Stand, Outcome, ok, err}
+use Rattle.refusal.specs.Paper.{numberOf, carried, standing, judgementPaper}
 use Rattle.refusal.specs.declared.Refusal.{Refusal}
 use Rattle.refusal.specs.declared.Stop.{Stop}
+use Rattle.refusal.specs.declared.Judgement.{Judgement}
 
 -- what is read back from what f says decides what f was said of
 pub one-to-one : {X Y : Type 0} (f : X → Y) (back : Y → X) → ((x : X) → back (f x) ≡ x) → {x x′ : X} → f x ≡ f x′ → x ≡ x′
@@ -84,8 +85,16 @@ refusal-back (Refusal.BadItem item) = refl
 pub refusal-same : {r r′ : Refusal} → numberOf r ≡ numberOf r′ → carried r ≡ carried r′ → r ≡ r′
 refusal-same {r} {r′} n c = sym (refusal-back r) ∙ ap₂ refusal n c ∙ refusal-back r′
 
-abbrev pub stop : ℕ → List ℕ → ℕ → Stop
+abbrev pub stop : ℕ → List ℕ → Stand → Stop
 stop k vs p = record { refusal = refusal k vs; position = p }
 
-pub stop-back : (s : Stop) → stop (numberOf (s .refusal)) (carried (s .refusal)) (s .position) ≡ s
+pub stop-back : (s : Stop) → stop (numberOf (s .refusal)) (carried (s .refusal)) (standing s) ≡ s
 stop-back s = ap (λ r. record { refusal = r; position = s .position }) (refusal-back (s .refusal))
+
+judgement-back : Outcome Unit → Judgement
+judgement-back (ok u p) = Judgement.Passes
+judgement-back (err k vs p) = Judgement.Refused (refusal k vs)
+
+pub judgement-same : {r r′ : Judgement} → judgementPaper r ≡ judgementPaper r′ → r ≡ r′
+unfolding judgement-back
+judgement-same = one-to-one judgementPaper judgement-back (elim [ Judgement.Passes ↦ refl | Judgement.Refused r ↦ ap Judgement.Refused (refusal-back r) ])

@@ -3,11 +3,18 @@ use Prim.Native.Nat.{ℕ, zero, suc}
 use mathlib.Core.List.{List, [], _∷_}
 use Rattle.words.specs.Buffers.{over}
 
--- a read: a value, and the position of the byte after it; or a refusal's number, what it carries, and the position where the reader then
--- stands (document 01: "A refused read, sheets apart, also returns the position where the Rust's `Decoder` then stands")
+-- what a refused read says of its place: the position where the reader then stands
+abbrev pub Stand : Type 0
+Stand = ℕ
+
+abbrev pub positionOf : Stand → ℕ
+positionOf p = p
+
+-- a read: a value, and the position of the byte after it; or a refusal's number, what it carries, and where the reader then stands
+-- (document 01: "A refused read, sheets apart, also returns the position where the Rust's `Decoder` then stands")
 pub data Outcome (A : Type 0) : Type 0 where
   ok : A → ℕ → Outcome A
-  err : ℕ → List ℕ → ℕ → Outcome A
+  err : ℕ → List ℕ → Stand → Outcome A
 
 -- one read and then, where it was not refused, another
 abbrev pub then : {A B : Type 0} → Outcome A → (A → ℕ → Outcome B) → Outcome B
@@ -17,6 +24,11 @@ then (err k vs p) f = err k vs p
 -- only where a read ends
 abbrev pub past : {A : Type 0} → Outcome A → Outcome Unit
 past o = then o (λ a next. ok tt next)
+
+-- the refusal's number, 0 where there is none
+abbrev pub refusedBy : {A : Type 0} → Outcome A → ℕ
+refusedBy (ok a p) = 0
+refusedBy (err k vs p) = k
 
 -- n reads of the same kind, one after the other
 unfoldable pub manyAt : {A : Type 0} → (ℕ → Outcome A) → ℕ → ℕ → Outcome (List A)

@@ -2,9 +2,10 @@
 use Prim.Native.Nat.{ℕ}
 use mathlib.Core.List.{List, [], _∷_}
 use lib.ListN.{getD}
-use Rattle.refusal.specs.Outcome.{Outcome, err}
+use Rattle.refusal.specs.Outcome.{Stand, Outcome, ok, err}
 use Rattle.refusal.specs.declared.Refusal.{Refusal}
 use Rattle.refusal.specs.declared.Stop.{Stop}
+use Rattle.refusal.specs.declared.Judgement.{Judgement}
 use Rattle.refusal.specs.declared.Carried.{Carried}
 
 -- the table's first column
@@ -77,6 +78,15 @@ carried (Refusal.BadItem item) = item ∷ []
 abbrev pub shownCarried : List ℕ → Carried
 shownCarried vs = record { first = getD vs 0 0; second = getD vs 1 0; third = getD vs 2 0 }
 
+-- where a stopped read stands
+abbrev pub standing : Stop → Stand
+standing s = s .position
+
 -- a stopped read, as the outcome of reading anything
 abbrev pub stopped : {A : Type 0} → Stop → Outcome A
-stopped s = err (numberOf (s .refusal)) (carried (s .refusal)) (s .position)
+stopped s = err (numberOf (s .refusal)) (carried (s .refusal)) (standing s)
+
+-- whether a thing that is not read passes, or why not: nothing is read, so the place is 0
+abbrev pub judgementPaper : Judgement → Outcome Unit
+judgementPaper Judgement.Passes = ok tt 0
+judgementPaper (Judgement.Refused r) = err (numberOf r) (carried r) 0

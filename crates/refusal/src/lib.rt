@@ -1,7 +1,8 @@
 // Why something was refused: document 01's table, one variant for each number, in its order.
 ghost use mathlib.Core.Path.{_≡_};
 ghost use mathlib.Core.List.{[], _∷_};
-ghost use Rattle.refusal.specs.Paper.{numberOf, carried, shownCarried};
+ghost use Rattle.refusal.specs.Outcome.{refusedBy};
+ghost use Rattle.refusal.specs.Paper.{numberOf, carried, shownCarried, judgementPaper};
 
 // The names and the carried numbers are the table's. The outpoints of 12 stand beside the refusal in the verifier's answer, since an enum here
 // holds no arrays.
@@ -42,6 +43,12 @@ pub enum Refusal {
 pub struct Stop {
     pub refusal: Refusal,
     pub position: usize,
+}
+
+// Whether a thing that is not read passes, or why not.
+pub enum Judgement {
+    Passes,
+    Refused(Refusal),
 }
 
 // The refusal's number in document 01's table.
@@ -95,6 +102,16 @@ pub fn number(r: Refusal) -> u8
         Refusal::SheetTooLong { side: _, length: _ } => 28,
         Refusal::NoRoom { needed: _ } => 29,
         Refusal::BadItem { item: _ } => 30,
+    }
+}
+
+// The refusal's number, 0 where there is none.
+pub fn judgement_number(j: Judgement) -> u8
+    ensures { λ n. ⌜ n ≡ refusedBy (judgementPaper j) ⌝ }
+{
+    match j {
+        Judgement::Passes => 0,
+        Judgement::Refused(r) => number(r),
     }
 }
 

@@ -1,17 +1,12 @@
 -- Answers from their pieces.
-use mathlib.Core.Path.{_≡_, refl, ap}
-use mathlib.Core.Bool.{Bool, true, false}
+use mathlib.Core.Path.{_≡_, refl, ap, _∙_}
 use mathlib.Core.List.{List, [], _∷_, _++_}
 use Prim.Native.Nat.{ℕ}
-use lib.ListN.{take}
 use Rattle.words.specs.Words.{bytes}
-use Rattle.words.specs.Buffers.{pick}
-use Rattle.refusal.specs.Outcome.{Outcome, ok, err}
-use Rattle.name_state.specs.State.{State}
-use Rattle.names.specs.Name.{validName, nameHash}
+use Rattle.refusal.specs.Outcome.{Outcome, ok, err, refusedBy}
+use Rattle.names.specs.Name.{nameHash}
 use Rattle.names.specs.Paper.{shownHash}
-use Rattle.sha3.specs.Sha3.{sha3}
-use Rattle.replay.specs.Answers.{numbers, stateNumbers, nameAnswer}
+use Rattle.replay.specs.Answers.{numbers, nameAnswer}
 
 -- twice four words
 pub twice-four :
@@ -20,17 +15,16 @@ pub twice-four :
 unfolding numbers bytes
 twice-four a b c d e f g h p q = rw (p, q)
 
--- two more numbers after a state's six
-pub six-of : (o : Outcome State) → take 48 (numbers (stateNumbers o ++ (0 ∷ 0 ∷ []))) ≡ numbers (stateNumbers o)
+-- four words
+pub four-of : (a b c d : ℕ) {xs : List ℕ} → xs ≡ bytes 8 a ++ bytes 8 b ++ bytes 8 c ++ bytes 8 d → xs ≡ numbers (a ∷ b ∷ c ∷ d ∷ [])
 unfolding numbers bytes
-six-of (ok t p) = refl
-six-of (err k vs p) = refl
+four-of a b c d p = rw p
 
--- whether there is a hash, and the hash, as an answer
-pub name-answer : (a hash : List ℕ) (valid : Bool) → _≡_ {A = Bool × List ℕ} (valid, hash) (shownHash (nameHash a)) → bytes 8 (pick {X = ℕ} valid 0 6) ++ hash ≡ nameAnswer (nameHash a)
-unfolding nameHash
-name-answer a hash valid = go (validName a)
+-- the number of the refusal of a name, and the hash, as an answer
+pub name-answer : (a : List ℕ) {hash : List ℕ} {w : Outcome Unit} {k : ℕ} → k ≡ refusedBy w → _≡_ {A = Outcome Unit × List ℕ} (w, hash) (shownHash (nameHash a))
+    → bytes 8 k ++ hash ≡ nameAnswer (nameHash a)
+name-answer a {hash} f e = ap (λ (n : ℕ). bytes 8 n ++ hash) f ∙ ap (λ (x : Outcome Unit × List ℕ). bytes 8 (refusedBy (x .0)) ++ x .1) e ∙ shown (nameHash a)
   where
-    go : (b : Bool) → _≡_ {A = Bool × List ℕ} (valid, hash) (shownHash (pick b (ok (sha3 a) 0) (err 6 [] 0))) → bytes 8 (pick {X = ℕ} valid 0 6) ++ hash ≡ nameAnswer (pick b (ok (sha3 a) 0) (err 6 [] 0))
-    go true e = ap (λ (x : Bool × List ℕ). bytes 8 (pick {X = ℕ} (x .0) 0 6) ++ x .1) e
-    go false e = ap (λ (x : Bool × List ℕ). bytes 8 (pick {X = ℕ} (x .0) 0 6) ++ x .1) e
+    shown : (o : Outcome (List ℕ)) → bytes 8 (refusedBy (shownHash o .0)) ++ shownHash o .1 ≡ nameAnswer o
+    shown (ok hash p) = refl
+    shown (err k vs p) = refl

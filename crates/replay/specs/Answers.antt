@@ -8,12 +8,14 @@ use lib.Dec.{ltb, leb, eqb}
 use Rattle.words.specs.Words.{le, bytes}
 use Rattle.words.specs.Buffers.{pick}
 use Rattle.words.specs.Sameness.{same}
-use Rattle.refusal.specs.Outcome.{Outcome, ok, err}
+use Rattle.refusal.specs.Outcome.{positionOf, Outcome, ok, err}
 use Rattle.primitives.specs.Outpoints.{outpointBytes}
 use Rattle.covenants.specs.Covenant as covenant
-use Rattle.name_state.specs.State.{State}
-use Rattle.name_state.specs.Paper.{classOf, classNumber}
-use Rattle.name_states.specs.Read.{readState}
+use Rattle.name_state.specs.State.{bit}
+use Rattle.name_state.specs.Paper.{stateOf, classOf, classNumber}
+use Rattle.name_state.specs.declared.NameState.{NameState}
+use Rattle.name_state_codec.specs.Read.{readState}
+use Rattle.name_state_codec.specs.Paper.{shownState}
 use Rattle.names.specs.Name.{nameHash}
 use Rattle.names.specs.Blind.{blindOf}
 use Rattle.links.specs.Verify.{Said, summary, stopped, Answer, verifyOf}
@@ -24,7 +26,9 @@ use Rattle.replay.specs.declared.compare.Judged.{Judged}
 -- list of numbers of 8 bytes each, the lowest byte first, and bytes after them where the entry has some:
 --   1 a covenant that is the whole argument: number, three carried, position, kind, count, used
 --   2 a covenant in the argument after 16 bytes, its allowance and its position: the same
---   3 a state under the argument's first 32 bytes, the rest is its record: number, three carried, position, class
+--   3 a state under the argument's first 32 bytes, the rest is its record: number, three carried, position, class, the name's length, the resource's;
+--     where it is accepted every field: height, renewal, value, highest, transfer, revoked, claimed, renewals, the owner's index, registered, expired,
+--     weak; the owner's hash (32 bytes), the name (63) and the resource (512), zeros past either length
 --   4 links: the transaction sheet's length (4 bytes), the sheet, and the coin sheet: number, three carried, side, inputs, linked, names; both
 --     outpoints of 12, 36 bytes each
 --   5 a name's hash: number; 32 bytes
@@ -75,11 +79,31 @@ refused k vs others = k ∷ getD vs 0 0 ∷ getD vs 1 0 ∷ getD vs 2 0 ∷ othe
 
 abbrev pub covenantNumbers : Outcome covenant.Said → List ℕ
 covenantNumbers (ok said p) = accepted (p ∷ said .0 ∷ said .1 ∷ said .2 ∷ [])
-covenantNumbers (err k vs p) = refused k vs (p ∷ 0 ∷ 0 ∷ 0 ∷ [])
+covenantNumbers (err k vs p) = refused k vs (positionOf p ∷ 0 ∷ 0 ∷ 0 ∷ [])
 
-abbrev pub stateNumbers : Outcome State → List ℕ
-stateNumbers (ok t p) = accepted (p ∷ classNumber (classOf t) ∷ [])
-stateNumbers (err k vs p) = refused k vs (p ∷ 0 ∷ [])
+abbrev pub stateAccepted : NameState → ℕ → List ℕ
+stateAccepted s p = accepted (p ∷ classNumber (classOf (stateOf s)) ∷ s .«name_length» ∷ s .«resource_length» ∷ [])
+
+abbrev pub stateAmounts : NameState → List ℕ
+stateAmounts s = s .height .0 ∷ s .renewal .0 ∷ s .value .0 ∷ s .highest .0 ∷ s .transfer .0 ∷ s .revoked .0 ∷ s .claimed .0 ∷ s .renewals ∷ []
+
+abbrev pub stateFlags : NameState → List ℕ
+stateFlags s = s .owner .index ∷ bit 1 (s .registered) ∷ bit 1 (s .expired) ∷ bit 1 (s .weak) ∷ []
+
+abbrev pub stateOwner : NameState → List ℕ
+stateOwner s = s .owner .«transaction_hash» .0
+
+-- every field of a state
+unfoldable pub stateFields : NameState → List ℕ
+stateFields s = (numbers (stateAmounts s) ++ (numbers (stateFlags s) ++ stateOwner s)) ++ (s .name ++ s .«resource_data»)
+
+-- what is handed out: an outcome, and the state beside it
+abbrev pub stateSaid : Outcome Unit → NameState → List ℕ
+stateSaid (ok u p) s = numbers (stateAccepted s p) ++ stateFields s
+stateSaid (err k vs p) s = numbers (refused k vs (positionOf p ∷ 0 ∷ 0 ∷ 0 ∷ []))
+
+abbrev pub stateAnswer : Outcome Unit × NameState → List ℕ
+stateAnswer shown = stateSaid (shown .0) (shown .1)
 
 abbrev pub linksNumbers : Said → List ℕ
 linksNumbers (summary inputs linked names) = accepted (0 ∷ inputs ∷ linked ∷ names ∷ [])
@@ -96,7 +120,7 @@ unfoldable pub answerOf : ℕ → List ℕ → List ℕ
 answerOf entry a =
     pick (eqb entry 1) (numbers (covenantNumbers (covenant.skimmed (covenant.wholeCovenant a))))
     (pick (eqb entry 2) (numbers (covenantNumbers (covenant.skimmed (covenant.covenantAt (le (take 8 a)) (drop 16 a) (le (take 8 (drop 8 a)))))))
-    (pick (eqb entry 3) (numbers (stateNumbers (readState (take 32 a) (drop 32 a))))
+    (pick (eqb entry 3) (stateAnswer (shownState (readState (take 32 a) (drop 32 a))))
     (pick (eqb entry 4) (linksAnswer (verifyOf (take (le (take 4 a)) (drop 4 a)) (drop (4 + le (take 4 a)) a)))
     (pick (eqb entry 5) (nameAnswer (nameHash a))
     (pick (eqb entry 6) (blindOf (le (take 8 a)) (drop 8 a)) [])))))

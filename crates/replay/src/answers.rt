@@ -1,22 +1,20 @@
 // What the entries answer, as the bytes of a record.
 use crate::records::size_at;
+use crate::states::is_state;
 use covenants::Covenant;
 use covenants::ReadCovenant;
 use encoding::read::Cursor;
-use encoding::read::Moved;
 use links::Links;
 use links::Verified;
 use links::verify_covenant_links;
-use name_state::Class;
-use name_states::decode::Decoded;
-use name_states::decode::decode;
 use names::blind_bid;
 use names::hash_name;
 use primitives::Dollarydoos;
-use primitives::NameHash;
 use primitives::Outpoint;
+use refusal::Judgement;
 use refusal::Refusal;
 use refusal::carried_by;
+use refusal::judgement_number;
 use refusal::number;
 use words::load::load_u64;
 use words::same::same_bytes;
@@ -29,23 +27,20 @@ ghost use mathlib.Core.List.{[], _∷_, _++_};
 ghost use Prim.Native.Nat.{_+_, _≤_};
 ghost use lib.ListN.{length, take, drop};
 ghost use Rattle.words.specs.Words.{le};
-ghost use Rattle.words.specs.Buffers.{pick};
 ghost use Rattle.words.specs.Sameness.{same};
-ghost use Rattle.refusal.specs.Paper.{numberOf, carried};
+ghost use Rattle.refusal.specs.Outcome.{refusedBy};
+ghost use Rattle.refusal.specs.Paper.{numberOf, carried, judgementPaper};
 ghost use Rattle.primitives.specs.Outpoints.{outpointBytes};
 ghost use Rattle.covenants.specs.Covenant.{skimmed, covenantAt, wholeCovenant};
 ghost use Rattle.covenants.specs.Paper.{covenantPaper};
-ghost use Rattle.name_states.specs.Read.{readState};
 ghost use Rattle.names.specs.Name.{nameHash};
 ghost use Rattle.names.specs.Blind.{blindOf};
 ghost use Rattle.links.specs.Verify.{verifyOf};
 ghost use Rattle.links.specs.Paper.{linksPaper, verifiedPaper};
-ghost use Rattle.name_state.specs.Paper.{classNumber};
-ghost use Rattle.name_states.specs.Paper.{decodedState};
-ghost use Rattle.replay.specs.Answers.{takes, numbers, refused, covenantNumbers, stateNumbers, linksNumbers, linksAnswer, nameAnswer, answerOf};
+ghost use Rattle.replay.specs.Answers.{takes, numbers, refused, covenantNumbers, linksNumbers, linksAnswer, nameAnswer, answerOf};
 
 // Eight numbers.
-fn eight(a: u64, b: u64, c: u64, d: u64, e: u64, f: u64, g: u64, h: u64) -> [u8; 64]
+pub(crate) fn eight(a: u64, b: u64, c: u64, d: u64, e: u64, f: u64, g: u64, h: u64) -> [u8; 64]
     ensures { λ r. ⌜ r ≡ numbers (a ∷ b ∷ c ∷ d ∷ e ∷ f ∷ g ∷ h ∷ []) ⌝ }
 {
     let first = words_bytes(a, b, c, d);
@@ -57,7 +52,7 @@ fn eight(a: u64, b: u64, c: u64, d: u64, e: u64, f: u64, g: u64, h: u64) -> [u8;
 }
 
 // A refusal, one number more, and zeros.
-fn refusal_numbers(refusal: Refusal, last: usize) -> [u8; 64]
+pub(crate) fn refusal_numbers(refusal: Refusal, last: usize) -> [u8; 64]
     ensures { λ r. ⌜ r ≡ numbers (refused (numberOf refusal) (carried refusal) (last ∷ 0 ∷ 0 ∷ 0 ∷ [])) ⌝ }
 {
     let k = number(refusal);
@@ -117,60 +112,6 @@ fn covenant_within(a: &[u8]) -> [u8; 64]
     covenant_numbers(Covenant::read(Cursor { position }, &a[16..], limit))
 }
 
-fn class_number(class: Class) -> u64
-    ensures { λ r. ⌜ r ≡ classNumber class ⌝ }
-{
-    match class {
-        Class::Null => 0,
-        Class::Held => 1,
-        Class::Free => 2,
-    }
-}
-
-fn state_numbers(decoded: Decoded) -> [u8; 64]
-    ensures { λ r. ⌜ r ≡ numbers (stateNumbers (decodedState decoded) ++ (0 ∷ 0 ∷ [])) ⌝ }
-{
-    let read = decoded.read;
-    let state = decoded.state;
-    match read {
-        Moved::To(end) => {
-            let class = class_number(state.class());
-            eight(0, 0, 0, 0, end.position as u64, class, 0, 0)
-        }
-        Moved::Refused(stop) => {
-            let refusal = stop.refusal;
-            refusal_numbers(refusal, stop.position)
-        }
-    }
-}
-
-// The first six of eight numbers.
-fn first_six(d: [u8; 64]) -> [u8; 48]
-    ensures { λ r. ⌜ r ≡ take 48 d ⌝ }
-{
-    let mut six = [0u8; 48];
-    put_bytes(&mut six, 0, &d[..48]);
-    six
-}
-
-fn key_of(a: &[u8]) -> NameHash
-    requires { ⌜ 32 ≤ length (now a) ⌝ }
-    ensures { λ r. ⌜ r .0 ≡ take 32 (now (a .entry)) ⌝ }
-{
-    let mut key = [0u8; 32];
-    put_bytes(&mut key, 0, &a[..32]);
-    NameHash(key)
-}
-
-fn state(a: &[u8]) -> [u8; 48]
-    requires { ⌜ 32 ≤ length (now a) ⌝ }
-    ensures { λ r. ⌜ r ≡ numbers (stateNumbers (readState (take 32 (now (a .entry))) (drop 32 (now (a .entry))))) ⌝ }
-{
-    let key = key_of(a);
-    let decoded = decode(key, &a[32..]);
-    first_six(state_numbers(decoded))
-}
-
 fn links_numbers(links: Links) -> [u8; 64]
     ensures { λ r. ⌜ r ≡ numbers (linksNumbers (linksPaper links)) ⌝ }
 {
@@ -222,21 +163,19 @@ fn sheets(a: &[u8]) -> [u8; 136]
     verified_answer(verify_covenant_links(&a[4..end], &a[end..]))
 }
 
-// 6 where there is no hash.
-fn name_number(valid: bool) -> u64
-    ensures { λ r. ⌜ r ≡ pick valid 0 6 ⌝ }
+// The number of a name's refusal, 0 where there is none.
+fn name_number(judgement: Judgement) -> u64
+    ensures { λ r. ⌜ r ≡ refusedBy (judgementPaper judgement) ⌝ }
 {
-    if valid {
-        return 0;
-    }
-    6
+    judgement_number(judgement) as u64
 }
 
 fn name(a: &[u8]) -> [u8; 40]
     ensures { λ r. ⌜ r ≡ nameAnswer (nameHash (now (a .entry))) ⌝ }
 {
     let hashed = hash_name(a);
-    let k = name_number(hashed.valid);
+    let judgement = hashed.judgement;
+    let k = name_number(judgement);
     let h = hashed.hash;
     let hash = h.0;
     let mut answer = [0u8; 40];
@@ -268,10 +207,7 @@ pub(crate) fn is_ours(entry: u8, a: &[u8], answer: &[u8]) -> bool
             let d = covenant_within(a);
             same_bytes(&d, answer)
         }
-        3 => {
-            let d = state(a);
-            same_bytes(&d, answer)
-        }
+        3 => is_state(a, answer),
         4 => {
             let d = sheets(a);
             same_bytes(&d, answer)

@@ -2,6 +2,7 @@
 mod answers;
 mod compare;
 mod records;
+mod states;
 
 use crate::compare::judge;
 use files::load;
@@ -75,6 +76,9 @@ fn main() {
     run_file(b"covenants 2", b"covenants_2.answers");
     run_file(b"states 1", b"states_1.answers");
     run_file(b"states 2", b"states_2.answers");
+    run_file(b"states 3", b"states_3.answers");
+    run_file(b"states 4", b"states_4.answers");
+    run_file(b"states 5", b"states_5.answers");
     run_file(b"links 1", b"links_1.answers");
     run_file(b"links 2", b"links_2.answers");
     run_file(b"links 3", b"links_3.answers");

@@ -6,7 +6,7 @@ use lib.ListN.{length}
 use Rattle.refusal.specs.Outcome.{Outcome, ok, err}
 use Rattle.primitives.specs.declared.Outpoint.{Outpoint}
 use Rattle.sheets.specs.declared.Place.{Place}
-use Rattle.sheets.specs.Sheet.{Judged, whole, refused, Transaction, judged, transactionAt, transactionOf, transactionCounts}
+use Rattle.sheets.specs.Sheet.{Judged, whole, refused, Transaction, Coin, judged, transactionAt, transactionOf, transactionCounts, coinsOf, both, pairOf}
 use Rattle.links.specs.Verify.{Answer, judgedThen, verifyOf}
 use Rattle.reports.specs.Link.{answerLine, judgedLine, linkLine}
 
@@ -20,10 +20,10 @@ unfolding transactionOf transactionCounts
 counts-line tx next = judged-line 0 _ _ (transactionAt tx) next
 
 -- the verifier refuses what the sheet is refused for
-then-line : (j : Judged Transaction) (f : Transaction → Answer) → judgedLine j (answerLine (judgedThen j f)) ≡ answerLine (judgedThen j f)
-then-line (whole t) f = refl
-then-line (refused k vs side) f = refl
+then-line : (j : Judged Transaction) (c : Judged (List Coin)) (f : Transaction × List Coin → Answer) → judgedLine j (answerLine (judgedThen (both j c) f)) ≡ answerLine (judgedThen (both j c) f)
+then-line (whole t) c f = refl
+then-line (refused k vs side) c f = refl
 
 pub answer-line : (tx coins : List ℕ) → judgedLine (transactionOf tx) (answerLine (verifyOf tx coins)) ≡ answerLine (verifyOf tx coins)
-unfolding verifyOf
-answer-line tx coins = then-line (transactionOf tx) _
+unfolding verifyOf pairOf
+answer-line tx coins = then-line (transactionOf tx) (coinsOf coins) _

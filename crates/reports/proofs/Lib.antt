@@ -1,4 +1,4 @@
-pub mod Decimal
 pub mod Line
 pub mod Judgement
+pub mod Theorems
 pub mod One

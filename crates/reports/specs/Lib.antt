@@ -1,3 +1,3 @@
-pub mod Text
 pub mod Name
 pub mod Link
+pub mod Theorems

@@ -7,7 +7,7 @@ use lib.Dec.{ltb, leb}
 use Rattle.words.specs.Buffers.{pick}
 use Rattle.sheets.specs.Sheet.{Judged, whole, refused, transactionOf}
 use Rattle.links.specs.Verify.{Said, summary, stopped, Answer, verifyOf}
-use Rattle.reports.specs.Text.{decimal, newline, refusedText, refusedLine}
+use Rattle.texts.specs.Text.{decimal, newline, refusedText, refusedLine}
 
 -- "links inputs=", " linked=", " names=" and " at "
 abbrev pub inputsText : List ℕ

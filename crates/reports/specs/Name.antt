@@ -8,8 +8,8 @@ use Rattle.refusal.specs.Outcome.{Outcome, ok, err, then}
 use Rattle.name_state.specs.State.{State}
 use Rattle.name_state.specs.Paper.{classOf}
 use Rattle.name_state.specs.declared.Class.{Class}
-use Rattle.name_states.specs.Read.{readState}
-use Rattle.reports.specs.Text.{decimal, newline, refusedLine}
+use Rattle.name_state_codec.specs.Read.{readState}
+use Rattle.texts.specs.Text.{decimal, newline, refusedLine}
 
 -- "CLASS is null, or held if the owner isn't null, else free"
 abbrev pub className : Class → List ℕ

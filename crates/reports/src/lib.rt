@@ -1,4 +1,3 @@
 // The report lines, made as bytes in lent memory. The programs only load and write.
 pub mod link;
 pub mod name;
-mod text;

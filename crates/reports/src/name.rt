@@ -1,32 +1,31 @@
 // The line of the name report.
-use crate::text::put_field;
-use crate::text::put_refused;
-use crate::text::put_text;
 use encoding::put::Put;
 use encoding::put::put_bytes;
 use encoding::read::Moved;
 use name_state::Class;
 use name_state::NameState;
-use name_states::decode::Decoded;
-use name_states::decode::decode;
+use name_state_codec::decode::decode;
 use primitives::NameHash;
 use refusal::number;
+use texts::put_field;
+use texts::put_refused;
+use texts::put_text;
 ghost use mathlib.Core.Path.{_≡_};
-ghost use mathlib.Core.List.{_++_};
-ghost use Prim.Native.Nat.{ℕ, _+_, _≤_};
+ghost use Prim.Native.Nat.{ℕ, _≤_};
 ghost use lib.ListN.{length, take};
 ghost use Rattle.words.specs.Buffers.{laid};
-ghost use Rattle.words.proofs.Laid.{Laid};
 ghost use Rattle.refusal.specs.Outcome.{ok};
 ghost use Rattle.encoding.specs.Wire.{putAnswer};
 ghost use Rattle.encoding.specs.Paper.{putPaper};
 ghost use Rattle.name_state.specs.Paper.{stateOf};
-ghost use Rattle.name_states.specs.Paper.{decodedState};
+ghost use Rattle.name_state_codec.specs.Read.{readState};
+ghost use Rattle.texts.specs.Text.{endOf};
 ghost use Rattle.reports.specs.Name.{className, stateLine, nameLine};
 
+// The name of a class; returns where it ends.
 fn put_class(d: &mut [u8], at: usize, class: Class) -> usize
-    requires { ⌜ at + 4 ≤ length (now d) ⌝ }
-    ensures { λ r. ⌜ Laid (now (d .entry)) at (className class) (now (d .exit)) r × (r ≡ at + 4) ⌝ }
+    ensures { λ r. ⌜ r ≡ endOf at (className class) (length (now (d .entry))) ⌝ }
+    ensures { λ _. ⌜ now (d .exit) ≡ laid at (className class) (now (d .entry)) ⌝ }
 {
     match class {
         Class::Null => put_text(d, at, b"null"),
@@ -38,7 +37,8 @@ fn put_class(d: &mut [u8], at: usize, class: Class) -> usize
 // The line of a state whose record has so many bytes; returns where it ends.
 fn put_state(d: &mut [u8], state: NameState, size: usize) -> usize
     requires { ⌜ 64 ≤ length (now d) ⌝ }
-    ensures { λ r. ⌜ Laid (now (d .entry)) 0 (stateLine size (ok (stateOf state) 0)) (now (d .exit)) r × (r ≤ 64) ⌝ }
+    ensures { λ r. ⌜ r ≡ endOf 0 (stateLine size (ok (stateOf state) 0)) (length (now (d .entry))) ⌝ }
+    ensures { λ _. ⌜ now (d .exit) ≡ laid 0 (stateLine size (ok (stateOf state) 0)) (now (d .entry)) ⌝ }
 {
     let class = state.class();
     let a = put_text(d, 0, b"state ");
@@ -48,15 +48,17 @@ fn put_state(d: &mut [u8], state: NameState, size: usize) -> usize
     put_text(d, e, b"\n")
 }
 
-// The line of what the reader said of a record of so many bytes; returns where it ends.
-fn put_decoded(d: &mut [u8], decoded: Decoded, size: usize) -> usize
+// The line of a record under its key; returns where it ends.
+fn put_record(d: &mut [u8], key: NameHash, value: &[u8]) -> usize
     requires { ⌜ 64 ≤ length (now d) ⌝ }
-    ensures { λ r. ⌜ Laid (now (d .entry)) 0 (stateLine size (decodedState decoded)) (now (d .exit)) r × (r ≤ 64) ⌝ }
+    ensures { λ r. ⌜ r ≡ endOf 0 (stateLine (length (now (value .entry))) (readState (key .0) (now (value .entry)))) (length (now (d .entry))) ⌝ }
+    ensures { λ _. ⌜ now (d .exit) ≡ laid 0 (stateLine (length (now (value .entry))) (readState (key .0) (now (value .entry)))) (now (d .entry)) ⌝ }
 {
+    let decoded = decode(key, value);
     let read = decoded.read;
     let state = decoded.state;
     match read {
-        Moved::To(_) => put_state(d, state, size),
+        Moved::To(_) => put_state(d, state, value.len()),
         Moved::Refused(stop) => {
             let refusal = stop.refusal;
             put_refused(d, number(refusal))
@@ -77,14 +79,13 @@ fn key_of(file: &[u8]) -> NameHash
 // The line of a file; returns where it ends.
 fn put_line(d: &mut [u8], file: &[u8]) -> usize
     requires { ⌜ 64 ≤ length (now d) ⌝ }
-    ensures { λ r. ⌜ Laid (now (d .entry)) 0 (nameLine (now (file .entry))) (now (d .exit)) r × (r ≤ 64) ⌝ }
+    ensures { λ r. ⌜ r ≡ endOf 0 (nameLine (now (file .entry))) (length (now (d .entry))) ⌝ }
+    ensures { λ _. ⌜ now (d .exit) ≡ laid 0 (nameLine (now (file .entry))) (now (d .entry)) ⌝ }
 {
     if file.len() < 32 {
         return put_refused(d, 1);
     }
-    let key = key_of(file);
-    let decoded = decode(key, &file[32..]);
-    put_decoded(d, decoded, file.len() - 32)
+    put_record(d, key_of(file), &file[32..])
 }
 
 // The line at the start of `out`, its newline with it: all of it, or nothing and the refusal.

@@ -7,8 +7,8 @@ use Rattle.encoding.specs.Wire.{remainingAt, inside, sliceAt, bytesAt, fixedAt,
 use Rattle.primitives.specs.Outpoints.{sameOutpoint, isNull}
 use Rattle.covenants.specs.Covenant.{allowed, itemAt, headAt, opening, bodyAt, covenantAt, wholeCovenant}
 use Rattle.name_state.specs.State.{null, bitmap, binding}
-use Rattle.name_states.specs.Written.{textsBytes, numbersBytes, heldBytes, timesBytes, recordWith, stateBytes}
-use Rattle.name_states.specs.Read.{upTo, textAt, textsAt, numbersAt, ownerAt, amountAt, amountsAt, heldAt, timesAt, gathered, optionalAt, fieldsAt, judged, readState}
+use Rattle.name_state_codec.specs.Written.{textsBytes, numbersBytes, heldBytes, timesBytes, recordWith, stateBytes}
+use Rattle.name_state_codec.specs.Read.{upTo, textAt, textsAt, numbersAt, ownerAt, amountAt, amountsAt, heldAt, timesAt, gathered, optionalAt, fieldsAt, judged, readState}
 use Rattle.samples.specs.Table.{SampleTable}
 
 pub sample-table : SampleTable
@@ -17,6 +17,8 @@ sample-table =
     record {
       size-252 = refl;
       size-253 = refl;
+      size-252-read = refl;
+      size-253-read = refl;
       size-too-long = refl;
       covenant-accepted = refl;
       covenant-trailing = refl;

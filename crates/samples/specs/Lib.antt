@@ -1,3 +1,4 @@
 pub mod Vectors
 pub mod Table
 pub mod Lines
+pub mod Viewed

@@ -8,12 +8,14 @@ use Rattle.refusal.specs.Outcome.{ok, err}
 use Rattle.encoding.specs.Wire.{compact, compactAt}
 use Rattle.covenants.specs.Covenant.{covenantAt, wholeCovenant}
 use Rattle.name_state.specs.Paper.{nullState}
-use Rattle.name_states.specs.Read.{readState}
+use Rattle.name_state_codec.specs.Read.{readState}
 
 pub record SampleTable : Type 0 where
   -- "252 is `fc`; 253 is `fd fd 00`; `fd fc 00` is 4"
   pub size-252 : compact 252 ≡ 0xfc ∷ []
   pub size-253 : compact 253 ≡ 0xfd ∷ 0xfd ∷ 0x00 ∷ []
+  pub size-252-read : compactAt (0xfc ∷ []) 0 ≡ ok 252 1
+  pub size-253-read : compactAt (0xfd ∷ 0xfd ∷ 0x00 ∷ []) 0 ≡ ok 253 3
   pub size-too-long : compactAt (0xfd ∷ 0xfc ∷ 0x00 ∷ []) 0 ≡ err 4 (16 ∷ []) 3
   -- "Covenant `00 00` is accepted; `00 00 00` is 3 {1}; `03` is 1 {1, 1}; `03 01 02 aa` is 1 {3, 1}"
   pub covenant-accepted : wholeCovenant (0x00 ∷ 0x00 ∷ []) ≡ ok (record { kind = 0; items = []; used = 2 }) 2

@@ -18,7 +18,7 @@ use encoding::read::Moved;
 use libc::STDOUT_FILENO;
 use links::Links;
 use links::verify_covenant_links;
-use name_states::decode::decode;
+use name_state_codec::decode::decode;
 use primitives::NameHash;
 use refusal::Refusal;
 use refusal::carried_by;

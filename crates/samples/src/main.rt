@@ -1,16 +1,21 @@
-// Runs hash vectors and compares: the published ones, and those that an independent tool made. Then runs document 01's sample lines.
+// Runs hash vectors and compares: the published ones, and those that an independent tool made. Then runs document 01's sample lines, and the item viewer.
 mod compare;
 mod lines;
 mod vectors;
+mod viewer;
 
 ghost use mathlib.Core.Path.{_≡_};
-ghost use mathlib.Core.Bool.{true};
+ghost use mathlib.Core.Bool.{_&&_};
 ghost use Prim.Native.Nat.{_≤_};
-ghost use lib.ListN.{length};
+ghost use lib.Dec.{leb, eqb};
+ghost use lib.ListN.{length, take};
+ghost use Rattle.words.specs.Words.{le};
+ghost use Rattle.samples.specs.Vectors.{headOf};
 use crate::compare::judge;
 use crate::lines::run_lines;
 use crate::vectors::Function;
 use crate::vectors::head;
+use crate::viewer::run_viewer;
 use files::load;
 use libc::STDOUT_FILENO;
 use words::load::load_u64;
@@ -44,8 +49,9 @@ fn refuse(name: &[u8], number: u64) {
     );
 }
 
+// Whether a file begins with its function's head, and has a count behind it.
 fn is_headed(f: Function, s: &[u8]) -> bool
-    ensures { λ r. ⌜ (r ≡ true → 16 ≤ length (now (s .entry))) ⌝ }
+    ensures { λ r. ⌜ r ≡ (leb 16 (length (now (s .entry))) && eqb (le (take 8 (now (s .entry)))) (headOf f)) ⌝ }
 {
     if s.len() < 16 {
         return false;
@@ -118,4 +124,5 @@ fn main() {
         &mut room,
     );
     run_lines();
+    run_viewer();
 }

@@ -39,11 +39,11 @@ module _ (s : List ℕ) (big : length s < 2 ^ 64) (most : ℕ) (within : length 
 
 pub transaction-small : (tx : List ℕ) {t : List Outpoint × List Place} {q : ℕ} → transactionAt tx ≡ ok t q → length tx ≤ 16777216
 unfolding transactionAt
-transaction-small tx e = sheet-read 0 tx (ledgerAt tx) e .small
+transaction-small tx e = sheet-read 0 tx (λ head next. ledgerAt tx (head .counts) next) e .small
 
 pub coins-small : (coins : List ℕ) {cs : List (Outpoint × Place)} {q : ℕ} → coinsAt coins ≡ ok cs q → length coins ≤ 16777216
 unfolding coinsAt
-coins-small coins e = sheet-read 1 coins (λ counts next. manyAt (coinAt coins) (counts .0) next) e .small
+coins-small coins e = sheet-read 1 coins (λ head next. manyAt (coinAt (head .version) coins) (head .counts .0) next) e .small
 
 module _ (tx : List ℕ) {inputs outputs : ℕ} (t : TransactionIs tx (inputs, outputs)) where
   pub inputs-end : (t .middle ≡ 4 + inputs * 36) × (t .middle ≤ 4 + length tx)

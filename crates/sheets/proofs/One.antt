@@ -8,13 +8,14 @@ use Rattle.words.proofs.One.{one, one-each}
 use Rattle.primitives.specs.Outpoints.{outpointPaper, shownOutpoint}
 use Rattle.primitives.specs.declared.ReadOutpoint.{ReadOutpoint}
 use Rattle.primitives.proofs.One.{outpoint-same}
-use Rattle.sheets.specs.Sheet.{inputAt, placeAt, transactionCounts, coinCounts}
+use Rattle.sheets.specs.Sheet.{inputAt, placeAt, gap, transactionCounts, coinCounts, pairCounts}
 use Rattle.sheets.specs.Viewer.{viewOf, viewBytes, viewPlace, exists}
-use Rattle.sheets.specs.Paper.{placePaper, sheetPaper, viewPaper}
+use Rattle.sheets.specs.Paper.{placePaper, sheetPaper, pairPaper, viewPaper}
 use Rattle.sheets.specs.declared.ReadPlace.{ReadPlace}
 use Rattle.sheets.specs.declared.SheetRead.{SheetRead}
+use Rattle.sheets.specs.declared.PairRead.{PairRead}
 use Rattle.sheets.specs.declared.viewer.View.{View}
-use Rattle.sheets.proofs.Same.{place-same, sheet-same, view-same}
+use Rattle.sheets.proofs.Same.{place-same, sheet-same, pair-same, view-same}
 
 pub input-at-one : (s : List ℕ) (at : ℕ) {r r′ : ReadOutpoint} → outpointPaper r ≡ shownOutpoint (inputAt s at) → outpointPaper r′ ≡ shownOutpoint (inputAt s at) → r ≡ r′
 input-at-one s at e f = outpoint-same (one e f)
@@ -27,6 +28,12 @@ judge-transaction-one s e f = sheet-same (one e f)
 
 pub judge-coins-one : (s : List ℕ) {r r′ : SheetRead} → sheetPaper r ≡ coinCounts s → sheetPaper r′ ≡ coinCounts s → r ≡ r′
 judge-coins-one s e f = sheet-same (one e f)
+
+pub judge-pair-one : (tx coins : List ℕ) {r r′ : PairRead} → pairPaper r ≡ pairCounts tx coins → pairPaper r′ ≡ pairCounts tx coins → r ≡ r′
+judge-pair-one tx coins e f = pair-same (one e f)
+
+pub gap-of-one : (version : ℕ) {r r′ : ℕ} → r ≡ gap version → r′ ≡ gap version → r ≡ r′
+gap-of-one version = one
 
 -- a lent slice is its bytes and where they lie; what else its record has, a ghost name, is no part of the value that is handed back
 module _ (tx coins : RefT (List ℕ)) (side index item : ℕ) where

@@ -8,17 +8,17 @@ use lib.ListN.{length, length-map}
 use lib.Dec.{eqb}
 use Rattle.covenants.proofs.Agree.{seek-finds, nth-inside}
 use Rattle.words.specs.Buffers.{pick}
-use Rattle.refusal.specs.Outcome.{Outcome, ok, err, then, past}
+use Rattle.refusal.specs.Outcome.{Stand, Outcome, ok, err, then, past}
 use Rattle.refusal.proofs.Many.{many-long, many-member}
 use Rattle.primitives.specs.declared.Outpoint.{Outpoint}
 use Rattle.covenants.specs.Covenant.{Reading, covenantAt}
 use Rattle.covenants.specs.Items.{Maybe, there, absent}
 use Rattle.sheets.specs.declared.Place.{Place}
-use Rattle.sheets.specs.Sheet.{inputAt, placeAt, coinAt, ledgerAt, transactionAt, coinsAt, whole, refused, judged, transactionCounts, coinCounts}
+use Rattle.sheets.specs.Sheet.{placeAt, gap, coinAt, ledgerAt, transactionAt, coinsAt, whole, refused, transactionCounts, coinCounts, pairCounts}
 use Rattle.sheets.specs.Viewer.{View, inTransaction, inCoins, nowhere, recordOf, itemIn, itemOfPlace, viewed, viewIn, viewOf}
-use Rattle.sheets.specs.Walk.{outputsIn, coinsIn, itemAfter, itemBehind, coinStart}
+use Rattle.sheets.specs.Workers.{placesOf, coinPlacesOf, itemAfter, itemBehind, coinOutput, coinStart}
 use Rattle.sheets.proofs.Reading.{place-read, coin-read}
-use Rattle.sheets.proofs.Whole.{ledger-next, transaction-is, coins-are, judged-refused}
+use Rattle.sheets.proofs.Whole.{ledger-next, transaction-is, coins-are, judged-refused, pair-refused}
 
 -- ---- a record of a list of places
 
@@ -50,14 +50,14 @@ module _ (s : List ℕ) (big : length s < 2 ^ 64) where
 
   module _ {counts : ℕ × ℕ} (counted : transactionCounts s ≡ whole counts) (k item : ℕ) where
     abbrev OutputItem : Maybe (ℕ × ℕ)
-    OutputItem = itemOfPlace s (recordOf (outputsIn (transactionAt s)) k) item
+    OutputItem = itemOfPlace s (recordOf (placesOf (transactionAt s)) k) item
 
     pub output-none : counts .1 ≤ k → absent ≡ OutputItem
     output-none h =
         let t = transaction-is s counted in
         let long = many-long (placeAt 0 s) (counts .1) (t .middle) (t .outputs) in
         let none : recordOf (t .lists .1) k ≡ absent = record-none (t .lists .1) k (omega arith) in
-        sym (ap (λ o. itemOfPlace s (recordOf (outputsIn o) k) item) (t .read .1) ∙ ap (λ r. itemOfPlace s r item) none)
+        sym (ap (λ o. itemOfPlace s (recordOf (placesOf o) k) item) (t .read .1) ∙ ap (λ r. itemOfPlace s r item) none)
 
     pub output-there : k < counts .1 → itemBehind 0 s (past (ledgerAt s (counts .0, k) 4)) item ≡ OutputItem
     output-there h =
@@ -67,39 +67,33 @@ module _ (s : List ℕ) (big : length s < 2 ^ 64) where
         let is : recordOf (t .lists .1) k ≡ there (m .item) = ap₂ recordOf (m .split) (sym long) ∙ record-front (m .front) (m .item) (m .back) in
         let way : past (ledgerAt s (counts .0, k) 4) ≡ ok tt (m .start) = ledger-next s (counts .0, k) 4 (ap past (t .inputs)) ∙ ap past (m .before) in
         ap (λ o. itemBehind 0 s o item) way ∙ item-after 0 (m .start) item (m .here)
-        ∙ sym (ap (λ o. itemOfPlace s (recordOf (outputsIn o) k) item) (t .read .1) ∙ ap (λ r. itemOfPlace s r item) is)
+        ∙ sym (ap (λ o. itemOfPlace s (recordOf (placesOf o) k) item) (t .read .1) ∙ ap (λ r. itemOfPlace s r item) is)
 
   -- ---- a coin's
 
   module _ {counts : ℕ × ℕ} (counted : coinCounts s ≡ whole counts) (k item : ℕ) where
     abbrev CoinItem : Maybe (ℕ × ℕ)
-    CoinItem = itemOfPlace s (recordOf (coinsIn (coinsAt s)) k) item
-
-    pub coin-counted : coinCounts s ≡ whole (counts .0, 0)
-    unfolding coinCounts
-    coin-counted =
-        let t = coins-are s counted in
-        ap (judged 1 (λ (cs : List (Outpoint × Place)). (length cs, 0))) (t .read .1) ∙ ap (λ n. whole (n, 0)) (many-long (coinAt s) (counts .0) 4 (t .coins))
+    CoinItem = itemOfPlace s (recordOf (coinPlacesOf (coinsAt s)) k) item
 
     pub coin-none : counts .0 ≤ k → absent ≡ CoinItem
     coin-none h =
         let t = coins-are s counted in
-        let long = many-long (coinAt s) (counts .0) 4 (t .coins) in
+        let long = many-long (coinAt 1 s) (counts .0) 4 (t .coins) in
         let none : recordOf (map second (t .list)) k ≡ absent = record-none (map second (t .list)) k (omega (arith, length-map (t .list) second)) in
-        sym (ap (λ o. itemOfPlace s (recordOf (coinsIn o) k) item) (t .read .1) ∙ ap (λ r. itemOfPlace s r item) none)
+        sym (ap (λ o. itemOfPlace s (recordOf (coinPlacesOf o) k) item) (t .read .1) ∙ ap (λ r. itemOfPlace s r item) none)
 
-    pub coin-there : k < counts .0 → itemBehind 1 s (coinStart s k 4) item ≡ CoinItem
-    unfolding coinStart
+    pub coin-there : k < counts .0 → itemBehind 1 s (coinStart 1 s k 4) item ≡ CoinItem
+    unfolding coinStart coinOutput
     coin-there h =
         let t = coins-are s counted in
-        let m = many-member (coinAt s) k (counts .0) 4 h (t .coins) in
-        let c = coin-read s (m .start) (m .here) in
-        let long : length (map second (m .front)) ≡ k = length-map (m .front) second ∙ many-long (coinAt s) k 4 (m .before) in
+        let m = many-member (coinAt 1 s) k (counts .0) 4 h (t .coins) in
+        let c = coin-read 1 s (m .start) (m .here) in
+        let long : length (map second (m .front)) ≡ k = length-map (m .front) second ∙ many-long (coinAt 1 s) k 4 (m .before) in
         let split : map second (t .list) ≡ map second (m .front) ++ (m .item .1 ∷ map second (m .back)) = ap (map second) (m .split) ∙ map-append second (m .front) (m .item ∷ m .back) in
         let is : recordOf (map second (t .list)) k ≡ there (m .item .1) = ap₂ recordOf split (sym long) ∙ record-front (map second (m .front)) (m .item .1) (map second (m .back)) in
-        let way : coinStart s k 4 ≡ ok tt (c .middle) = ap (λ o. then (past o) (λ nothing next. past (inputAt s next))) (m .before) ∙ ap past (c .outpoint) in
-        ap (λ o. itemBehind 1 s o item) way ∙ item-after 1 (c .middle) item (c .output)
-        ∙ sym (ap (λ o. itemOfPlace s (recordOf (coinsIn o) k) item) (t .read .1) ∙ ap (λ r. itemOfPlace s r item) is)
+        let way : coinStart 1 s k 4 ≡ ok tt (c .middle + gap 1) = ap (λ o. then (past o) (λ nothing next. coinOutput 1 s next)) (m .before) ∙ ap (λ o. then (past o) (λ nothing next. ok tt (next + gap 1))) (c .outpoint) in
+        ap (λ o. itemBehind 1 s o item) way ∙ item-after 1 (c .middle + gap 1) item (c .output)
+        ∙ sym (ap (λ o. itemOfPlace s (recordOf (coinPlacesOf o) k) item) (t .read .1) ∙ ap (λ r. itemOfPlace s r item) is)
 
   -- an item lies within
   item-inside : (r : Maybe Place) (item : ℕ) {part : ℕ × ℕ} → itemOfPlace s r item ≡ there part → part .0 + part .1 ≤ length s
@@ -121,8 +115,8 @@ Inside tx coins nowhere = Unit
 module _ (tx coins : List ℕ) (side k item : ℕ) where
   abbrev Chosen : View
   Chosen =
-      pick (eqb side 0) (viewed inTransaction (itemOfPlace tx (recordOf (outputsIn (transactionAt tx)) k) item))
-      (pick (eqb side 1) (viewed inCoins (itemOfPlace coins (recordOf (coinsIn (coinsAt coins)) k) item)) nowhere)
+      pick (eqb side 0) (viewed inTransaction (itemOfPlace tx (recordOf (placesOf (transactionAt tx)) k) item))
+      (pick (eqb side 1) (viewed inCoins (itemOfPlace coins (recordOf (coinPlacesOf (coinsAt coins)) k) item)) nowhere)
 
   pub view-chosen : {v w : ℕ × ℕ} → transactionCounts tx ≡ whole v → coinCounts coins ≡ whole w → viewOf tx coins side k item ≡ Chosen
   unfolding viewOf
@@ -131,19 +125,23 @@ module _ (tx coins : List ℕ) (side k item : ℕ) where
       let cs = coins-are coins f .read in
       rw (t .1, cs .1)
 
-  pub view-no-transaction : {n : ℕ} {vs : List ℕ} {d : ℕ} → transactionCounts tx ≡ refused n vs d → viewOf tx coins side k item ≡ nowhere
+  view-no-transaction : {n : ℕ} {vs : List ℕ} {d : ℕ} → transactionCounts tx ≡ refused n vs d → viewOf tx coins side k item ≡ nowhere
   unfolding viewOf transactionCounts
   view-no-transaction e = let w = judged-refused 0 (λ (t : List Outpoint × List Place). (length (t .0), length (t .1))) (transactionAt tx) e in rw (w .1)
 
-  pub view-no-coins : {n : ℕ} {vs : List ℕ} {d : ℕ} → coinCounts coins ≡ refused n vs d → viewOf tx coins side k item ≡ nowhere
+  view-no-coins : {n : ℕ} {vs : List ℕ} {d : ℕ} → coinCounts coins ≡ refused n vs d → viewOf tx coins side k item ≡ nowhere
   unfolding viewOf coinCounts
   view-no-coins e =
       let w = judged-refused 1 (λ (cs : List (Outpoint × Place)). (length cs, 0)) (coinsAt coins) e in
       rw (w .1) (go (transactionAt tx) _ _ _)
     where
-      go : (o : Outcome (List Outpoint × List Place)) (n : ℕ) (vs : List ℕ) (p : ℕ) → viewIn tx coins side k item o (err n vs p) ≡ nowhere
+      go : (o : Outcome (List Outpoint × List Place)) (n : ℕ) (vs : List ℕ) (p : Stand) → viewIn tx coins side k item o (err n vs p) ≡ nowhere
       go (ok t end) n vs p = refl
       go (err n′ vs′ p′) n vs p = refl
+
+  -- .. where either sheet is refused
+  pub view-no-pair : {n : ℕ} {vs : List ℕ} {d : ℕ} → pairCounts tx coins ≡ refused n vs d → viewOf tx coins side k item ≡ nowhere
+  view-no-pair e = pair-refused tx coins e view-no-transaction (λ counts f. view-no-coins)
 
   module _ (big : length tx < 2 ^ 64) (large : length coins < 2 ^ 64) where
     in-transaction : (m : Maybe (ℕ × ℕ)) → ((part : ℕ × ℕ) → m ≡ there part → part .0 + part .1 ≤ length tx) → Inside tx coins (viewed inTransaction m)

@@ -1,4 +1,5 @@
 pub mod Sheet
 pub mod Viewer
-pub mod Walk
+pub mod Workers
 pub mod Paper
+pub mod Theorems

@@ -2,25 +2,30 @@
 use Prim.Native.Nat.{ℕ}
 use Rattle.refusal.specs.Outcome.{Outcome, ok}
 use Rattle.refusal.specs.Paper.{numberOf, carried, stopped}
-use Rattle.sheets.specs.Sheet.{Judged, whole, refused}
+use Rattle.sheets.specs.Sheet.{Head, Judged, whole, refused}
 use Rattle.sheets.specs.Viewer as viewer
 use Rattle.sheets.specs.declared.Place.{Place}
 use Rattle.sheets.specs.declared.ReadPlace.{ReadPlace}
 use Rattle.sheets.specs.declared.ReadHead.{ReadHead}
 use Rattle.sheets.specs.declared.SheetRead.{SheetRead}
+use Rattle.sheets.specs.declared.PairRead.{PairRead}
 use Rattle.sheets.specs.declared.viewer.View.{View}
 
 abbrev pub placePaper : ReadPlace → Outcome Place
 placePaper (ReadPlace.Output p next) = ok p (next .position)
 placePaper (ReadPlace.Refused s) = stopped s
 
-abbrev pub headPaper : ReadHead → Outcome (ℕ × ℕ)
-headPaper (ReadHead.Counts first outputs next) = ok (first, outputs) (next .position)
+abbrev pub headPaper : ReadHead → Outcome Head
+headPaper (ReadHead.Counts version first outputs next) = ok (record { version = version; counts = (first, outputs) }) (next .position)
 headPaper (ReadHead.Refused s) = stopped s
 
 abbrev pub sheetPaper : SheetRead → Judged (ℕ × ℕ)
 sheetPaper (SheetRead.Counts first outputs) = whole (first, outputs)
 sheetPaper (SheetRead.Refused r side) = refused (numberOf r) (carried r) side
+
+abbrev pub pairPaper : PairRead → Judged ((ℕ × ℕ) × (ℕ × ℕ))
+pairPaper (PairRead.Counts inputs outputs coins) = whole ((inputs, outputs), (coins, 0))
+pairPaper (PairRead.Refused r side) = refused (numberOf r) (carried r) side
 
 abbrev pub viewPaper : View → viewer.View
 viewPaper (View.Transaction start len) = viewer.inTransaction start len

@@ -1,5 +1,5 @@
 -- Sheets: document 01, "Sheets and reports", on lists of bytes. "Fields are bit-packed, most significant first".
-use Prim.Native.Nat.{ℕ, _+_, _*_, _/_, _%_, _^_}
+use Prim.Native.Nat.{ℕ, zero, suc, _+_, _*_, _/_, _%_, _^_}
 use mathlib.Core.List.{List, [], _∷_, map}
 use mathlib.Core.Bool.{Bool, true, false}
 use lib.ListN.{length, take, drop, getD}
@@ -9,7 +9,9 @@ use Rattle.refusal.specs.Outcome.{Outcome, ok, err, then, manyAt}
 use Rattle.encoding.specs.Wire.{sliceAt, finishAt}
 use Rattle.primitives.specs.declared.Outpoint.{Outpoint}
 use Rattle.primitives.specs.Outpoints.{outpoint}
-use Rattle.covenants.specs.Covenant.{Reading, covenantAt, bytesIn, contents}
+use Rattle.covenants.specs.Covenant as covenant
+use Rattle.covenants.specs.Covenant.{itemAt, covenantAt, bytesIn, contents}
+use Rattle.sheets.specs.declared.Address.{Address}
 use Rattle.sheets.specs.declared.Place.{Place}
 
 -- the number that bytes spell after v, the highest byte first
@@ -24,8 +26,7 @@ be bs = spell 0 bs
 
 pub record Output : Type 0 where
   pub value : ℕ
-  pub version : ℕ
-  pub hash : List ℕ
+  pub address : ℕ × List ℕ  -- its version and its hash
   pub kind : ℕ
   pub items : List (List ℕ)
 
@@ -37,17 +38,31 @@ pub record Transaction : Type 0 where
   pub inputs : List Outpoint
   pub outputs : List Output
 
--- the items of the covenant that stands at a place: none where none can be read
-abbrev pub heldItems : List ℕ → Outcome Reading → List (List ℕ)
-heldItems s (ok c next) = contents s (c .items)
-heldItems s (err k vs p) = []
+-- what follows a read, and nothing where it is refused
+abbrev pub upon : {A B : Type 0} → Outcome A → (A → ℕ → List B) → List B
+upon (ok a next) f = f a next
+upon (err k vs p) f = []
+
+-- the first of n reads in a row, as far as they go
+unfoldable pub seenAt : {A : Type 0} → (ℕ → Outcome A) → ℕ → ℕ → List A
+seenAt read zero at = []
+seenAt read (suc n) at = upon (read at) (λ x next. x ∷ seenAt read n next)
+
+-- where the items of the covenant that stands at a place stand: all that its head counts, or up to the first that cannot be read. Those of a
+-- covenant that is accepted are all its items (`ItemsAreRead`), and a sheet with another covenant is refused
+unfoldable pub partsFrom : List ℕ → ℕ → List (ℕ × ℕ)
+partsFrom s at = upon (covenant.headAt 1000009 s at) (λ head first. seenAt (itemAt 1000009 at s) (head .1) first)
 
 unfoldable pub itemsFrom : List ℕ → ℕ → List (List ℕ)
-itemsFrom s at = heldItems s (covenantAt 1000009 s at)
+itemsFrom s at = contents s (partsFrom s at)
+
+-- an address, from where it stands in a sheet: its version and its hash
+abbrev pub addressAt : List ℕ → Address → ℕ × List ℕ
+addressAt s a = (a .version, bytesIn s (a .start, a .len))
 
 -- an output, from the place where it stands in a sheet
 abbrev pub outputOf : List ℕ → Place → Output
-outputOf s p = record { value = p .value .0; version = p .version; hash = bytesIn s (p .start, p .size); kind = p .kind; items = itemsFrom s (p .covenant) }
+outputOf s p = record { value = p .value .0; address = addressAt s (p .address); kind = p .kind; items = itemsFrom s (p .covenant) }
 
 abbrev pub coinOf : List ℕ → Outpoint × Place → Coin
 coinOf s c = record { outpoint = c .0; output = outputOf s (c .1) }
@@ -58,30 +73,35 @@ coinOf s c = record { outpoint = c .0; output = outputOf s (c .1) }
 abbrev pub field : {A : Type 0} → Bool → ℕ → ℕ → Outcome A → Outcome A
 field right side offset o = pick right o (err 27 (side ∷ offset ∷ []) offset)
 
+-- what a head says: the sheet's version, and how many inputs and outputs there are, or coins and 0
+pub record Head : Type 0 where
+  pub version : ℕ
+  pub counts : ℕ × ℕ
+
 -- "Head: version 4 bits = 1; side 2 bits (0 transaction, 1 coins); inputs or coins 10; outputs 10 (0 on coins); spare 6 = 0"; n is its 32 bits
-unfoldable pub headFields : ℕ → ℕ → ℕ → Outcome (ℕ × ℕ)
+unfoldable pub headFields : ℕ → ℕ → ℕ → Outcome Head
 headFields side n next =
     field (eqb (n / 2 ^ 28) 1) side 0
     (field (eqb (n / 2 ^ 26 % 4) side) side 0
     (field (pick (eqb side 1) (eqb (n / 2 ^ 6 % 1024) 0) true) side 2
     (field (eqb (n % 64) 0) side 3
-    (ok (n / 2 ^ 16 % 1024, n / 2 ^ 6 % 1024) next))))
+    (ok (record { version = n / 2 ^ 28; counts = (n / 2 ^ 16 % 1024, n / 2 ^ 6 % 1024) }) next))))
 
 -- "Head (4 bytes) .. one fixed read, judged by 1 before its fields"
-unfoldable pub headAt : ℕ → List ℕ → Outcome (ℕ × ℕ)
-headAt side s = then (sliceAt 4 s 0) (λ fields next. headFields side (be (bytesIn s (0, 4))) next)
+unfoldable pub sheetHeadAt : ℕ → List ℕ → Outcome Head
+sheetHeadAt side s = then (sliceAt 4 s 0) (λ fields next. headFields side (be (bytesIn s (0, 4))) next)
 
 -- "Input: hash, index 32 bits"; outpoint (36) one fixed read
 unfoldable pub inputAt : List ℕ → ℕ → Outcome Outpoint
 inputAt s at = then (sliceAt 36 s at) (λ fields next. ok (outpoint (bytesIn s (at, 32)) (be (bytesIn s (at + 32, 4)))) next)
 
 -- ".. hash length 6, hash, covenant by its codec under 1,000,009"; the hash is one fixed read
-unfoldable pub bodyAt : ℕ → ℕ → ℕ → List ℕ → ℕ → Outcome Place
-bodyAt value version size s at =
+unfoldable pub placeBodyAt : ℕ → ℕ → ℕ → List ℕ → ℕ → Outcome Place
+placeBodyAt value version size s at =
     then (sliceAt size s at)
     (λ hash covenant.
     then (covenantAt 1000009 s covenant)
-    (λ c next. ok (record { value = record { 0 = value }; version = version; start = hash .0; size = hash .1; covenant = covenant; kind = c .kind }) next))
+    (λ c next. ok (record { value = record { 0 = value }; address = record { version = version; start = hash .0; len = hash .1 }; covenant = covenant; kind = c .kind }) next))
 
 -- "Output: value 64, address version 8, spare 2 = 0": "output fields before the hash (10)" are one fixed read
 unfoldable pub placeAt : ℕ → List ℕ → ℕ → Outcome Place
@@ -89,17 +109,21 @@ placeAt side s at =
     then (sliceAt 10 s at)
     (λ fields next.
     field (eqb (getD s (at + 9) 0 / 64) 0) side (at + 9)
-    (bodyAt (be (bytesIn s (at, 8))) (getD s (at + 8) 0) (getD s (at + 9) 0 % 64) s next))
+    (placeBodyAt (be (bytesIn s (at, 8))) (getD s (at + 8) 0) (getD s (at + 9) 0 % 64) s next))
+
+-- how many bytes a sheet of a version has between a coin's outpoint and its output: none in version 1
+abbrev pub gap : ℕ → ℕ
+gap version = 0
 
 -- "Coin: outpoint as an input, then as an output"
-unfoldable pub coinAt : List ℕ → ℕ → Outcome (Outpoint × Place)
-coinAt s at = then (inputAt s at) (λ o next. then (placeAt 1 s next) (λ p next. ok (o, p) next))
+unfoldable pub coinAt : ℕ → List ℕ → ℕ → Outcome (Outpoint × Place)
+coinAt version s at = then (inputAt s at) (λ o next. then (placeAt 1 s (next + gap version)) (λ p next. ok (o, p) next))
 
 -- "at most 16,777,216 bytes a sheet (28 first)"; "leftover bytes are 3"
-unfoldable pub sheetAt : {A : Type 0} → ℕ → List ℕ → (ℕ × ℕ → ℕ → Outcome A) → Outcome A
+unfoldable pub sheetAt : {A : Type 0} → ℕ → List ℕ → (Head → ℕ → Outcome A) → Outcome A
 sheetAt side s rest =
     pick (ltb 16777216 (length s)) (err 28 (side ∷ length s ∷ []) 0)
-    (then (headAt side s) (λ counts next. then (rest counts next) (λ a end. then (finishAt s end) (λ nothing end. ok a end))))
+    (then (sheetHeadAt side s) (λ head next. then (rest head next) (λ a end. then (finishAt s end) (λ nothing end. ok a end))))
 
 -- "Inputs come before outputs"
 unfoldable pub ledgerAt : List ℕ → ℕ × ℕ → ℕ → Outcome (List Outpoint × List Place)
@@ -108,10 +132,10 @@ ledgerAt s counts at =
     (λ inputs next. then (manyAt (placeAt 0 s) (counts .1) next) (λ outputs end. ok (inputs, outputs) end))
 
 unfoldable pub transactionAt : List ℕ → Outcome (List Outpoint × List Place)
-transactionAt s = sheetAt 0 s (ledgerAt s)
+transactionAt s = sheetAt 0 s (λ head next. ledgerAt s (head .counts) next)
 
 unfoldable pub coinsAt : List ℕ → Outcome (List (Outpoint × Place))
-coinsAt s = sheetAt 1 s (λ counts next. manyAt (coinAt s) (counts .0) next)
+coinsAt s = sheetAt 1 s (λ head next. manyAt (coinAt (head .version) s) (head .counts .0) next)
 
 -- ---- a sheet judged whole: what it holds; or a refusal by its number and what it carries, and the side ("Refusals 1 to 5 from a sheet also carry
 -- the side"). "A refused read, sheets apart, also returns the position": here none
@@ -137,3 +161,16 @@ transactionCounts s = judged 0 (λ t. (length (t .0), length (t .1))) (transacti
 
 unfoldable pub coinCounts : List ℕ → Judged (ℕ × ℕ)
 coinCounts s = judged 1 (λ cs. (length cs, 0)) (coinsAt s)
+
+-- "The transaction sheet is judged whole, then the coin sheet": both, or the first refusal
+abbrev pub both : {A B : Type 0} → Judged A → Judged B → Judged (A × B)
+both (whole a) (whole b) = whole (a, b)
+both (whole a) (refused k vs side) = refused k vs side
+both (refused k vs side) coins = refused k vs side
+
+-- the transaction and the coins; and how many inputs and outputs, and coins and 0
+unfoldable pub pairOf : List ℕ → List ℕ → Judged (Transaction × List Coin)
+pairOf tx coins = both (transactionOf tx) (coinsOf coins)
+
+unfoldable pub pairCounts : List ℕ → List ℕ → Judged ((ℕ × ℕ) × (ℕ × ℕ))
+pairCounts tx coins = both (transactionCounts tx) (coinCounts coins)

@@ -21,24 +21,34 @@ ghost use lib.Dec.{eqb};
 ghost use Rattle.words.specs.Words.{bytes};
 ghost use Rattle.words.specs.Buffers.{pick};
 ghost use Rattle.refusal.specs.Outcome.{then, manyAt, past};
+ghost use Rattle.refusal.specs.Paper.{standing};
 ghost use Rattle.refusal.specs.declared.Refusal.{Refusal};
 ghost use Rattle.encoding.specs.Wire.{finishAt};
 ghost use Rattle.encoding.specs.Paper.{movedPaper};
-ghost use Rattle.primitives.specs.Outpoints.{outpointPaper, shownOutpoint, noOutpoint};
+ghost use Rattle.primitives.specs.Outpoints.{outpointPaper, shownOutpoint};
 ghost use Rattle.covenants.specs.Covenant.{bytesIn};
 ghost use Rattle.sheets.specs.declared.SheetRead.{SheetRead};
-ghost use Rattle.sheets.specs.Sheet.{be, headFields, headAt, inputAt, bodyAt, placeAt, coinAt, ledgerAt, transactionCounts, coinCounts};
-ghost use Rattle.sheets.specs.Paper.{placePaper, headPaper, sheetPaper};
+ghost use Rattle.sheets.specs.Sheet.{be, headFields, sheetHeadAt, inputAt, placeBodyAt, placeAt, gap, coinAt, ledgerAt, transactionCounts, coinCounts, pairCounts};
+ghost use Rattle.sheets.specs.Paper.{placePaper, headPaper, sheetPaper, pairPaper};
+ghost use Rattle.sheets.specs.Workers.{coinOutput};
 
 // A sheet has at most so many bytes.
 const LONGEST: usize = 16_777_216;
 
-// An output: its value and address version, where its hash stands, and where its covenant stands and of what kind it is.
-pub struct Place {
-    pub value: Dollarydoos,
+// The version of every sheet.
+pub const VERSION: u8 = 1;
+
+// An address: its version, and where its hash stands and how long it is.
+pub struct Address {
     pub version: u8,
     pub start: usize,
-    pub size: usize,
+    pub len: usize,
+}
+
+// An output: its value, its address, and where its covenant stands and of what kind it is.
+pub struct Place {
+    pub value: Dollarydoos,
+    pub address: Address,
     pub covenant: usize,
     pub kind: u8,
 }
@@ -54,8 +64,28 @@ pub enum SheetRead {
     Refused { refusal: Refusal, side: u8 },
 }
 
+// How many inputs and outputs a transaction sheet has, and how many coins the coin sheet; or why one is refused, and
+// which of them.
+pub enum PairRead {
+    Counts {
+        inputs: usize,
+        outputs: usize,
+        coins: usize,
+    },
+    Refused {
+        refusal: Refusal,
+        side: u8,
+    },
+}
+
+// A head: the sheet's version, and how many inputs (or coins) and outputs it has.
 enum ReadHead {
-    Counts(usize, usize, Cursor),
+    Counts {
+        version: u8,
+        first: usize,
+        outputs: usize,
+        next: Cursor,
+    },
     Refused(Stop),
 }
 
@@ -110,7 +140,7 @@ fn be_eight(s: &[u8], at: usize) -> u64
 
 // A wrong fixed field, which begins at `offset`.
 fn wrong_field(side: u8, offset: usize) -> Stop
-    ensures { λ r. ⌜ (r .refusal ≡ Refusal.SheetField side offset) × (r .position ≡ offset) ⌝ }
+    ensures { λ r. ⌜ (r .refusal ≡ Refusal.SheetField side offset) × (standing r ≡ offset) ⌝ }
 {
     Stop {
         refusal: Refusal::SheetField { side, offset },
@@ -143,13 +173,18 @@ fn head_fields(side: u8, n: u64, next: Cursor) -> ReadHead
         if n % 64 != 0 {
             return ReadHead::Refused(wrong_field(side, 3));
         }
-        return ReadHead::Counts((n / 65_536 % 1024) as usize, outputs as usize, next);
+        return ReadHead::Counts {
+            version: (n / 268_435_456) as u8,
+            first: (n / 65_536 % 1024) as usize,
+            outputs: outputs as usize,
+            next,
+        };
     }
     ReadHead::Refused(wrong_field(side, 2))
 }
 
 fn head(s: &[u8], side: u8) -> ReadHead
-    ensures { λ r. ⌜ headPaper r ≡ headAt side (now (s .entry)) ⌝ }
+    ensures { λ r. ⌜ headPaper r ≡ sheetHeadAt side (now (s .entry)) ⌝ }
 {
     let c = Cursor { position: 0 };
     match c.read_slice(s, 4) {
@@ -159,19 +194,6 @@ fn head(s: &[u8], side: u8) -> ReadHead
             next,
         } => head_fields(side, be_at(s, 0, 4), next),
         ReadSpan::Refused(stop) => ReadHead::Refused(stop),
-    }
-}
-
-// A refused outpoint.
-fn no_outpoint(moved: Moved) -> ReadOutpoint
-    ensures { λ r. ⌜ r ≡ noOutpoint moved ⌝ }
-{
-    ReadOutpoint {
-        moved,
-        outpoint: Outpoint {
-            transaction_hash: TransactionHash([0u8; 32]),
-            index: 0,
-        },
     }
 }
 
@@ -197,13 +219,13 @@ pub fn input_at(c: Cursor, s: &[u8]) -> ReadOutpoint
                 },
             }
         }
-        ReadSpan::Refused(stop) => no_outpoint(Moved::Refused(stop)),
+        ReadSpan::Refused(stop) => ReadOutpoint::refused(stop),
     }
 }
 
 // The hash and the covenant of an output.
 fn body(c: Cursor, s: &[u8], value: u64, version: u8, size: usize) -> ReadPlace
-    ensures { λ r. ⌜ placePaper r ≡ bodyAt value version size (now (s .entry)) (c .position) ⌝ }
+    ensures { λ r. ⌜ placePaper r ≡ placeBodyAt value version size (now (s .entry)) (c .position) ⌝ }
 {
     match c.read_slice(s, size) {
         ReadSpan::Span { start, len, next } => {
@@ -216,9 +238,11 @@ fn body(c: Cursor, s: &[u8], value: u64, version: u8, size: usize) -> ReadPlace
                 } => ReadPlace::Output(
                     Place {
                         value: Dollarydoos(value),
-                        version,
-                        start,
-                        size: len,
+                        address: Address {
+                            version,
+                            start,
+                            len,
+                        },
                         covenant: next.position,
                         kind,
                     },
@@ -254,7 +278,7 @@ pub fn place_at(c: Cursor, s: &[u8], side: u8) -> ReadPlace
 }
 
 // An outpoint is passed.
-pub(crate) fn pass_input(c: Cursor, s: &[u8]) -> Moved
+fn pass_input(c: Cursor, s: &[u8]) -> Moved
     ensures { λ r. ⌜ movedPaper r ≡ past (inputAt (now (s .entry)) (c .position)) ⌝ }
 {
     match c.read_slice(s, 36) {
@@ -277,11 +301,30 @@ fn pass_output(c: Cursor, s: &[u8], side: u8) -> Moved
     }
 }
 
-// A coin is passed.
-fn pass_coin(c: Cursor, s: &[u8]) -> Moved
-    ensures { λ r. ⌜ movedPaper r ≡ past (coinAt (now (s .entry)) (c .position)) ⌝ }
+// How many bytes a sheet of the version has between a coin's outpoint and its output.
+pub fn gap_of(version: u8) -> usize
+    ensures { λ r. ⌜ r ≡ gap version ⌝ }
+{
+    0
+}
+
+// A coin's outpoint is passed, and what its version puts behind it.
+pub(crate) fn pass_to_output(c: Cursor, s: &[u8], version: u8) -> Moved
+    ensures { λ r. ⌜ movedPaper r ≡ coinOutput version (now (s .entry)) (c .position) ⌝ }
 {
     match pass_input(c, s) {
+        Moved::To(next) => Moved::To(Cursor {
+            position: next.position + gap_of(version),
+        }),
+        Moved::Refused(stop) => Moved::Refused(stop),
+    }
+}
+
+// A coin is passed.
+fn pass_coin(c: Cursor, s: &[u8], version: u8) -> Moved
+    ensures { λ r. ⌜ movedPaper r ≡ past (coinAt version (now (s .entry)) (c .position)) ⌝ }
+{
+    match pass_to_output(c, s, version) {
         Moved::To(next) => pass_output(next, s, 1),
         Moved::Refused(stop) => Moved::Refused(stop),
     }
@@ -325,13 +368,13 @@ fn pass_outputs(from: Cursor, s: &[u8], n: usize) -> Moved
     Moved::To(c)
 }
 
-pub(crate) fn pass_coins(from: Cursor, s: &[u8], n: usize) -> Moved
-    ensures { λ r. ⌜ movedPaper r ≡ past (manyAt (coinAt (now (s .entry))) n (from .position)) ⌝ }
+pub(crate) fn pass_coins(from: Cursor, s: &[u8], version: u8, n: usize) -> Moved
+    ensures { λ r. ⌜ movedPaper r ≡ past (manyAt (coinAt version (now (s .entry))) n (from .position)) ⌝ }
 {
     let mut c = from;
     let mut i: usize = 0;
     while i < n {
-        match pass_coin(c, s) {
+        match pass_coin(c, s, version) {
             Moved::To(next) => {
                 c = next;
             }
@@ -386,7 +429,12 @@ pub fn judge_transaction(s: &[u8]) -> SheetRead
         };
     }
     match head(s, 0) {
-        ReadHead::Counts(inputs, outputs, next) => {
+        ReadHead::Counts {
+            version: _,
+            first: inputs,
+            outputs,
+            next,
+        } => {
             match ends(ledger(next, s, inputs, outputs), s) {
                 Moved::To(_) => SheetRead::Counts(inputs, outputs),
                 Moved::Refused(stop) => refused(stop, 0),
@@ -410,10 +458,32 @@ pub fn judge_coins(s: &[u8]) -> SheetRead
         };
     }
     match head(s, 1) {
-        ReadHead::Counts(coins, _, next) => match ends(pass_coins(next, s, coins), s) {
+        ReadHead::Counts {
+            version,
+            first: coins,
+            outputs: _,
+            next,
+        } => match ends(pass_coins(next, s, version, coins), s) {
             Moved::To(_) => SheetRead::Counts(coins, 0),
             Moved::Refused(stop) => refused(stop, 1),
         },
         ReadHead::Refused(stop) => refused(stop, 1),
+    }
+}
+
+// The transaction sheet is judged whole, then the coin sheet.
+pub fn judge_pair(tx: &[u8], coins: &[u8]) -> PairRead
+    ensures { λ r. ⌜ pairPaper r ≡ pairCounts (now (tx .entry)) (now (coins .entry)) ⌝ }
+{
+    match judge_transaction(tx) {
+        SheetRead::Counts(inputs, outputs) => match judge_coins(coins) {
+            SheetRead::Counts(count, _) => PairRead::Counts {
+                inputs,
+                outputs,
+                coins: count,
+            },
+            SheetRead::Refused { refusal, side } => PairRead::Refused { refusal, side },
+        },
+        SheetRead::Refused { refusal, side } => PairRead::Refused { refusal, side },
     }
 }

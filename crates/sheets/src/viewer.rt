@@ -1,11 +1,11 @@
 // The item viewer: the bytes of one item, inside the sheet that it stands in.
+use crate::PairRead;
 use crate::ReadPlace;
-use crate::SheetRead;
-use crate::judge_coins;
-use crate::judge_transaction;
+use crate::VERSION;
+use crate::judge_pair;
 use crate::ledger;
 use crate::pass_coins;
-use crate::pass_input;
+use crate::pass_to_output;
 use crate::place_at;
 use covenants::items::Spot;
 use covenants::items::find;
@@ -19,7 +19,7 @@ ghost use Rattle.covenants.specs.Covenant.{bytesIn};
 ghost use Rattle.covenants.specs.Paper.{spotPaper};
 ghost use Rattle.sheets.specs.Sheet.{whole, transactionAt, coinsAt, transactionCounts, coinCounts};
 ghost use Rattle.sheets.specs.Viewer.{recordOf, itemOfPlace, viewed, inTransaction, inCoins, viewOf, viewBytes, viewPlace, exists};
-ghost use Rattle.sheets.specs.Walk.{outputsIn, coinsIn, itemBehind, coinStart};
+ghost use Rattle.sheets.specs.Workers.{placesOf, coinPlacesOf, itemBehind, coinStart};
 ghost use Rattle.sheets.specs.Paper.{viewPaper};
 
 // In which sheet an item stands, from where on, and how long it is.
@@ -65,12 +65,12 @@ fn item_behind(walked: Moved, s: &[u8], side: u8, item: usize) -> Spot
     }
 }
 
-// So many coins are passed, and the outpoint of the next.
-fn coin_start(from: Cursor, s: &[u8], n: usize) -> Moved
-    ensures { λ r. ⌜ movedPaper r ≡ coinStart (now (s .entry)) n (from .position) ⌝ }
+// So many coins are passed, and what stands before the output of the next.
+fn coin_start(from: Cursor, s: &[u8], version: u8, n: usize) -> Moved
+    ensures { λ r. ⌜ movedPaper r ≡ coinStart version (now (s .entry)) n (from .position) ⌝ }
 {
-    match pass_coins(from, s, n) {
-        Moved::To(next) => pass_input(next, s),
+    match pass_coins(from, s, version, n) {
+        Moved::To(next) => pass_to_output(next, s, version),
         Moved::Refused(stop) => Moved::Refused(stop),
     }
 }
@@ -78,7 +78,7 @@ fn coin_start(from: Cursor, s: &[u8], n: usize) -> Moved
 // An output's item on a transaction sheet with so many inputs and outputs; the first input stands behind the head's 4 bytes.
 fn output_item(tx: &[u8], inputs: usize, outputs: usize, record: usize, item: usize) -> Spot
     requires { ⌜ transactionCounts (now tx) ≡ whole (inputs, outputs) ⌝ }
-    ensures { λ r. ⌜ spotPaper r ≡ itemOfPlace (now (tx .entry)) (recordOf (outputsIn (transactionAt (now (tx .entry)))) «record») item ⌝ }
+    ensures { λ r. ⌜ spotPaper r ≡ itemOfPlace (now (tx .entry)) (recordOf (placesOf (transactionAt (now (tx .entry)))) «record») item ⌝ }
 {
     if outputs <= record {
         return Spot::Absent;
@@ -90,36 +90,34 @@ fn output_item(tx: &[u8], inputs: usize, outputs: usize, record: usize, item: us
 // A coin's item on a coin sheet with so many coins; the first stands behind the head's 4 bytes.
 fn coin_item(coins: &[u8], count: usize, record: usize, item: usize) -> Spot
     requires { ⌜ coinCounts (now coins) ≡ whole (count, 0) ⌝ }
-    ensures { λ r. ⌜ spotPaper r ≡ itemOfPlace (now (coins .entry)) (recordOf (coinsIn (coinsAt (now (coins .entry)))) «record») item ⌝ }
+    ensures { λ r. ⌜ spotPaper r ≡ itemOfPlace (now (coins .entry)) (recordOf (coinPlacesOf (coinsAt (now (coins .entry)))) «record») item ⌝ }
 {
     if count <= record {
         return Spot::Absent;
     }
     let first = Cursor { position: 4 };
-    item_behind(coin_start(first, coins, record), coins, 1, item)
+    item_behind(coin_start(first, coins, VERSION, record), coins, 1, item)
 }
 
 // Both sheets are judged, and then the record's item is found.
 pub fn find_view(tx: &[u8], coins: &[u8], side: u8, record: usize, item: usize) -> View
     ensures { λ r. ⌜ viewPaper r ≡ viewOf (now (tx .entry)) (now (coins .entry)) side «record» item ⌝ }
 {
-    match judge_transaction(tx) {
-        SheetRead::Counts(inputs, outputs) => match judge_coins(coins) {
-            SheetRead::Counts(count, _) => {
-                if side == 0 {
-                    return in_transaction(output_item(tx, inputs, outputs, record, item));
-                }
-                if side == 1 {
-                    return in_coins(coin_item(coins, count, record, item));
-                }
-                View::Nowhere
+    match judge_pair(tx, coins) {
+        PairRead::Counts {
+            inputs,
+            outputs,
+            coins: count,
+        } => {
+            if side == 0 {
+                return in_transaction(output_item(tx, inputs, outputs, record, item));
             }
-            SheetRead::Refused {
-                refusal: _,
-                side: _,
-            } => View::Nowhere,
-        },
-        SheetRead::Refused {
+            if side == 1 {
+                return in_coins(coin_item(coins, count, record, item));
+            }
+            View::Nowhere
+        }
+        PairRead::Refused {
             refusal: _,
             side: _,
         } => View::Nowhere,

@@ -12,36 +12,99 @@ pub struct Runs {
     bytes: Vec<u8>,
 }
 
+/// The allowance for each covenant: the default, which is the original's `decode_from`, or one that is named.
+#[derive(Clone, Copy)]
+enum Allowance {
+    Default,
+    Limit(usize),
+}
+
+impl Allowance {
+    const fn bytes(self) -> usize {
+        match self {
+            Self::Default => 1_000_009,
+            Self::Limit(limit) => limit,
+        }
+    }
+
+    fn next(self, bytes: &[u8], position: usize, count: usize) -> (&'static str, StepAnswer) {
+        match self {
+            Self::Default => (
+                "turgamysk_covenant_run_next",
+                entries::covenant_run_next(bytes, position, count),
+            ),
+            Self::Limit(limit) => (
+                "turgamysk_covenant_run_next_with_limit",
+                entries::covenant_run_next_with_limit(bytes, limit, position, count),
+            ),
+        }
+    }
+
+    fn read(self, bytes: &[u8]) -> Vec<(&'static str, RunAnswer)> {
+        match self {
+            Self::Default => vec![
+                (
+                    "turgamysk_covenant_read_run",
+                    entries::covenant_read_run(bytes),
+                ),
+                (
+                    "turgamysk_covenant_import_archive",
+                    entries::covenant_import_archive(bytes),
+                ),
+            ],
+            Self::Limit(limit) => vec![(
+                "turgamysk_covenant_read_run_with_limit",
+                entries::covenant_read_run_with_limit(bytes, limit),
+            )],
+        }
+    }
+}
+
 /// The original's covenants one after the other: each step as ours has it, and how the run ended.
-fn compare(tally: &mut Tally, bytes: &[u8], limit: usize) {
+fn compare(tally: &mut Tally, bytes: &[u8], allowance: Allowance) {
     let mut position = 0;
     for count in 0.. {
-        let theirs = step(bytes, limit, position, count);
-        let ours = entries::covenant_run_next(bytes, limit, position, count);
-        tally.compare(theirs.verdict.number, &ours, &theirs, || Case {
-            entry: "turgamysk_covenant_run_next",
-            input: bytes.to_vec(),
-            with: format!("limit {limit}, position {position}, count {count}"),
-        });
+        let theirs = compare_one(tally, bytes, allowance, position, count);
         if theirs.ended || theirs.verdict != Verdict::ACCEPTED {
-            return compare_whole(tally, bytes, limit, &theirs);
+            return compare_whole(tally, bytes, allowance, &theirs);
         }
         position = theirs.position;
     }
 }
 
-fn compare_whole(tally: &mut Tally, bytes: &[u8], limit: usize, last: &StepAnswer) {
+fn compare_one(
+    tally: &mut Tally,
+    bytes: &[u8],
+    allowance: Allowance,
+    position: usize,
+    count: usize,
+) -> StepAnswer {
+    let theirs = step(bytes, allowance.bytes(), position, count);
+    let (entry, ours) = allowance.next(bytes, position, count);
+    tally.compare(theirs.verdict.number, &ours, &theirs, || Case {
+        entry,
+        input: bytes.to_vec(),
+        with: format!(
+            "limit {}, position {position}, count {count}",
+            allowance.bytes()
+        ),
+    });
+    theirs
+}
+
+fn compare_whole(tally: &mut Tally, bytes: &[u8], allowance: Allowance, last: &StepAnswer) {
     let theirs = RunAnswer {
         verdict: last.verdict,
         position: last.position,
         covenants: last.covenants,
     };
-    let ours = entries::covenant_read_run(bytes, limit);
-    tally.compare(theirs.verdict.number, &ours, &theirs, || Case {
-        entry: "turgamysk_covenant_read_run",
-        input: bytes.to_vec(),
-        with: format!("limit {limit}"),
-    });
+    for (entry, ours) in allowance.read(bytes) {
+        tally.compare(theirs.verdict.number, &ours, &theirs, || Case {
+            entry,
+            input: bytes.to_vec(),
+            with: format!("limit {}", allowance.bytes()),
+        });
+    }
 }
 
 /// "It ends with their count when no bytes are left, or with the first refusal and the count before it."
@@ -71,16 +134,12 @@ fn compare_step(tally: &mut Tally, bytes: &[u8], random: &mut Random) {
     let position = random.below(bytes.len() + 3);
     let count = random.of(&[0, 1, 1000, usize::MAX - 1, usize::MAX]);
     let limit = random.of(&[0, 1, 2, 30, 1_000_009, usize::MAX]);
-    let theirs = step(bytes, limit, position, count);
-    if position > bytes.len() {
-        tally.known("cursor-beyond");
+    for allowance in [Allowance::Default, Allowance::Limit(limit)] {
+        if position > bytes.len() {
+            tally.known("cursor-beyond");
+        }
+        compare_one(tally, bytes, allowance, position, count);
     }
-    let ours = entries::covenant_run_next(bytes, limit, position, count);
-    tally.compare(theirs.verdict.number, &ours, &theirs, || Case {
-        entry: "turgamysk_covenant_run_next",
-        input: bytes.to_vec(),
-        with: format!("limit {limit}, position {position}, count {count}"),
-    });
 }
 
 impl Kind for Runs {
@@ -93,7 +152,7 @@ impl Kind for Runs {
     }
 
     fn exhaustive(&mut self, tally: &mut Tally) {
-        short_inputs(2, |bytes| compare(tally, bytes, 1_000_009));
+        short_inputs(2, |bytes| compare(tally, bytes, Allowance::Default));
     }
 
     fn random(&mut self, random: &mut Random, tally: &mut Tally) {
@@ -110,7 +169,8 @@ impl Kind for Runs {
         } else {
             1_000_009
         };
-        compare(tally, &self.bytes, limit);
+        compare(tally, &self.bytes, Allowance::Default);
+        compare(tally, &self.bytes, Allowance::Limit(limit));
         compare_step(tally, &self.bytes, random);
     }
 }

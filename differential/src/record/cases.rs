@@ -10,8 +10,8 @@ use crate::random::Random;
 use crate::sheets::build::{self as sheets, Sheets, fault};
 use crate::sheets::judge::damage_one;
 use crate::sheets::verify;
-use turgamysk::Outpoint;
 use turgamysk::entries::{CovenantAnswer, Verdict};
+use turgamysk::{NameState, Outpoint};
 
 /// So many random cases are drawn of each kind.
 const DRAWN: usize = 100_000;
@@ -149,17 +149,47 @@ fn class_of(state: &hns_covenants::NameState) -> usize {
     }
 }
 
+/// The numbers after the class, and the bytes after them: every field of a state.
+fn fields(state: &NameState) -> (Vec<u64>, Vec<u8>) {
+    let numbers = vec![
+        state.name_length as u64,
+        state.resource_length as u64,
+        state.height.0.into(),
+        state.renewal.0.into(),
+        state.value.0,
+        state.highest.0,
+        state.transfer.0.into(),
+        state.revoked.0.into(),
+        state.claimed.0.into(),
+        state.renewals.into(),
+        state.owner.index.into(),
+        state.registered.into(),
+        state.expired.into(),
+        state.weak.into(),
+    ];
+    let bytes = [
+        &state.owner.transaction_hash.0[..],
+        &state.name,
+        &state.resource_data,
+    ];
+    (numbers, bytes.concat())
+}
+
 fn state(records: &mut Records, key: &[u8; 32], bytes: &[u8]) {
     let (read, position) = original::decode(key, bytes);
-    let (refusal, shown) = match read {
-        Ok(whole) => (Verdict::ACCEPTED, class_of(&original::theirs(&whole.0))),
-        Err(refused) => (refused, 0),
+    let (refusal, shown, (more, texts)) = match read {
+        Ok(whole) => (
+            Verdict::ACCEPTED,
+            class_of(&original::theirs(&whole.0)),
+            fields(&whole.0),
+        ),
+        Err(refused) => (refused, 0, (vec![0; 2], Vec::new())),
     };
     let record = Record {
         entry: entry::STATE,
         argument: [&key[..], bytes].concat(),
-        numbers: numbers(refusal, &[position, shown]),
-        bytes: Vec::new(),
+        numbers: [numbers(refusal, &[position, shown]), more].concat(),
+        bytes: texts,
     };
     let is_long = bytes.len() > SHORT;
     let (other, enough) = match refusal.number {

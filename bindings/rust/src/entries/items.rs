@@ -56,15 +56,23 @@ mod c {
         pub fn turgamysk_covenant_run_next(
             source: *const u8,
             length: usize,
+            position: usize,
+            count: usize,
+        ) -> StepAnswer;
+        pub fn turgamysk_covenant_run_next_with_limit(
+            source: *const u8,
+            length: usize,
             limit: usize,
             position: usize,
             count: usize,
         ) -> StepAnswer;
-        pub fn turgamysk_covenant_read_run(
+        pub fn turgamysk_covenant_read_run(source: *const u8, length: usize) -> RunAnswer;
+        pub fn turgamysk_covenant_read_run_with_limit(
             source: *const u8,
             length: usize,
             limit: usize,
         ) -> RunAnswer;
+        pub fn turgamysk_covenant_import_archive(source: *const u8, length: usize) -> RunAnswer;
         pub fn turgamysk_covenant_find(
             source: *const u8,
             length: usize,
@@ -118,14 +126,42 @@ mod c {
     }
 }
 
-/// The next covenant of a run, from `position` on and after `count` covenants, under an allowance of `limit` bytes.
-pub fn covenant_run_next(source: &[u8], limit: usize, position: usize, count: usize) -> StepAnswer {
-    unsafe { c::turgamysk_covenant_run_next(source.as_ptr(), source.len(), limit, position, count) }
+/// The next covenant of a run, from `position` on and after `count` covenants, 1,000,009 bytes allowed for it.
+pub fn covenant_run_next(source: &[u8], position: usize, count: usize) -> StepAnswer {
+    unsafe { c::turgamysk_covenant_run_next(source.as_ptr(), source.len(), position, count) }
 }
 
-/// A whole run, read to its end.
-pub fn covenant_read_run(source: &[u8], limit: usize) -> RunAnswer {
-    unsafe { c::turgamysk_covenant_read_run(source.as_ptr(), source.len(), limit) }
+/// The same under an allowance of `limit` bytes.
+pub fn covenant_run_next_with_limit(
+    source: &[u8],
+    limit: usize,
+    position: usize,
+    count: usize,
+) -> StepAnswer {
+    unsafe {
+        c::turgamysk_covenant_run_next_with_limit(
+            source.as_ptr(),
+            source.len(),
+            limit,
+            position,
+            count,
+        )
+    }
+}
+
+/// A whole run, read to its end, 1,000,009 bytes allowed for each covenant.
+pub fn covenant_read_run(source: &[u8]) -> RunAnswer {
+    unsafe { c::turgamysk_covenant_read_run(source.as_ptr(), source.len()) }
+}
+
+/// The same under an allowance of `limit` bytes for each covenant.
+pub fn covenant_read_run_with_limit(source: &[u8], limit: usize) -> RunAnswer {
+    unsafe { c::turgamysk_covenant_read_run_with_limit(source.as_ptr(), source.len(), limit) }
+}
+
+/// An archive, which is a run of covenants, read to its end, 1,000,009 bytes allowed for each covenant.
+pub fn covenant_import_archive(source: &[u8]) -> RunAnswer {
+    unsafe { c::turgamysk_covenant_import_archive(source.as_ptr(), source.len()) }
 }
 
 /// An item of the covenant at `position`, found without a directory.

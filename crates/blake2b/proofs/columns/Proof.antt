@@ -1,6 +1,6 @@
 use borrow.Author.Needs.{needs}
 use Rattle.blake2b.specs.Blake2b.{cols}
-use Rattle.blake2b.specs.Turns.{four}
+use Rattle.blake2b.specs.Workers.{four}
 use Rattle.blake2b.proofs.columns.Statement.{statement}
 use Rattle.blake2b.proofs.columns.Tie as tie
 

@@ -1,7 +1,7 @@
 use borrow.Author.Needs.{needs}
 use mathlib.Core.Path.{_≡_, ap, _∙_}
 use lib.ListN.{length}
-use Rattle.blake2b.specs.Turns.{four, back}
+use Rattle.blake2b.specs.Workers.{four, back}
 use Rattle.blake2b.proofs.Rounds.{diags-law}
 use Rattle.blake2b.proofs.diagonals.Statement.{statement}
 use Rattle.blake2b.proofs.diagonals.Tie as tie

@@ -4,15 +4,12 @@ use Rattle.capi.specs.Flat.{covenantFlat}
 use Rattle.capi.proofs.turgamysk_covenant_decode.Statement.{statement}
 use Rattle.capi.proofs.turgamysk_covenant_decode.Tie as tie
 
--- src/lib.rt:152:21
 decode-into-requires : tie.Need-decode-into-requires
 decode-into-requires c κs = search needs
 
--- src/lib.rt:152:5
 covenant-answer-requires : tie.Need-covenant-answer-requires
 covenant-answer-requires c κs = search needs
 
--- src/lib.rt:142:1
 returns : tie.Need-returns
 returns c = (c .covenant-answer .ensures ∙ ap covenantFlat (c .before .decode-into .ensures .0), c .before .decode-into .ensures .1)
 

@@ -9,19 +9,15 @@ use Rattle.capi.proofs.turgamysk_covenant_encode.Lts as lts
 use Rattle.capi.proofs.write_answer.Reads as write-answer-reads
 use Rattle.covenants.proofs.write.encode.Reads as encode-reads
 
--- src/lib.rt:172:18
 encode-requires : tie.Need-encode-requires
 encode-requires c κs = search needs
 
--- src/lib.rt:172:5
 write-answer-requires : tie.Need-write-answer-requires
 write-answer-requires c κs = search needs
 
--- src/lib.rt:160:1
 same-length : tie.Need-same-length
 same-length c = search needs
 
--- src/lib.rt:160:1
 returns : tie.Need-returns
 returns c = (c .write-answer .ensures ∙ ap writeFlat (c .before .before .before .encode .ensures .0), c .before .before .before .encode .ensures .1)
 

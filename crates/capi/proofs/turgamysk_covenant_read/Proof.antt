@@ -9,15 +9,12 @@ use Rattle.capi.proofs.turgamysk_covenant_read.Lts as lts
 use Rattle.capi.proofs.covenant_answer.Reads as covenant-answer-reads
 use Rattle.covenants.proofs.Covenant.read.Reads as read-reads
 
--- src/lib.rt:139:21
 read-requires : tie.Need-read-requires
 read-requires c κs = search needs
 
--- src/lib.rt:139:5
 covenant-answer-requires : tie.Need-covenant-answer-requires
 covenant-answer-requires c κs = search needs
 
--- src/lib.rt:131:1
 returns : tie.Need-returns
 returns c = c .covenant-answer .ensures ∙ ap covenantFlat (c .before .read .ensures)
 

@@ -10,27 +10,21 @@ use Rattle.capi.proofs.write_answer.Lts as lts
 use Rattle.refusal.proofs.carried_by.Reads as carried-by-reads
 use Rattle.refusal.proofs.number.Reads as number-reads
 
--- src/lib.rt:111:22
 enum-known-put : tie.Need-enum-known-put
 enum-known-put c = search needs
 
--- src/lib.rt:118:22
 enum-known-put-2 : tie.Need-enum-known-put-2
 enum-known-put-2 c = search needs
 
--- src/lib.rt:119:17
 carried-by-requires : tie.Need-carried-by-requires
 carried-by-requires c κs = search needs
 
--- src/lib.rt:121:25
 number-requires : tie.Need-number-requires
 number-requires c κs = search needs
 
--- src/lib.rt:107:1
 returns : tie.Need-returns
 returns c = ap (λ r. writeFlat (putPaper r)) (sym (c .before .put .given .1))
 
--- src/lib.rt:107:1
 returns-2 : tie.Need-returns-2
 returns-2 c = rw (c .before .before .before .put2 .given .1, c .number .ensures, c .before .carried-by .ensures)
 

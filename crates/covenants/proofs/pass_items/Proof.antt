@@ -17,48 +17,38 @@ Inv-loop s start allowance count passed₀ at₀ passed at = (start ≤ at) × P
 abbrev μ-loop : tie.MeasureT-loop
 μ-loop s start allowance count passed₀ at₀ passed at = count - passed
 
--- src/lib.rt:182:5
 loop-holds : tie.Need-loop-holds Inv-loop μ-loop
 loop-holds c = (omega arith, begin _ _ _)
 
--- src/lib.rt:183:13
 short-items-requires : tie.Need-short-items-requires Inv-loop μ-loop
 short-items-requires c κs = search needs
 
--- src/lib.rt:185:13
 returns : tie.Need-returns Inv-loop μ-loop
 returns c = sym (ended _ (onward _ (c .before .before .before .loop .inv .1) (c .before .before .short-items .ensures .0 .2) (c .before .before .short-items .ensures .1)) (c .if1 .taken))
 
--- src/lib.rt:187:15
-item-requires : tie.Need-item-requires Inv-loop μ-loop
-item-requires c κs = search needs
+read-item-requires : tie.Need-read-item-requires Inv-loop μ-loop
+read-item-requires c κs = search needs
 
--- src/lib.rt:191:17
 enum-known-next : tie.Need-enum-known-next Inv-loop μ-loop
 enum-known-next c = search needs
 
--- src/lib.rt:193:26
 add-passed : tie.Need-add-passed Inv-loop μ-loop
 add-passed c = search needs
 
--- src/lib.rt:182:5
 loop-less : tie.Need-loop-less Inv-loop μ-loop
 loop-less c = search needs
 
--- src/lib.rt:182:5
 loop-again : tie.Need-loop-again Inv-loop μ-loop
 loop-again c =
-    let e = told spanPaper (c .before .before .before .before .item .ensures) (c .before .before .next .given .1) in
+    let e = told spanPaper (c .before .before .before .before .read-item .ensures) (c .before .before .next .given .1) in
     let m = item-read _ _ _ (omega arith) _ e in
     (omega (arith, c .before .before .before .before .before .before .before .short-items .ensures .0, m .later, m .ends), more _ (onward _ (c .before .before .before .before .before .before .before .before .loop .inv .1) (c .before .before .before .before .before .before .before .short-items .ensures .0 .2) (c .before .before .before .before .before .before .before .short-items .ensures .1)) (c .before .before .before .before .before .if1 .left) e)
 
--- src/lib.rt:196:31
 enum-known-stop : tie.Need-enum-known-stop Inv-loop μ-loop
 enum-known-stop c = search needs
 
--- src/lib.rt:197:17
 returns-2 : tie.Need-returns-2 Inv-loop μ-loop
-returns-2 c = sym (stopped _ (onward _ (c .before .before .before .before .before .before .before .loop .inv .1) (c .before .before .before .before .before .before .short-items .ensures .0 .2) (c .before .before .before .before .before .before .short-items .ensures .1)) (c .before .before .before .before .if1 .left) (told spanPaper (c .before .before .before .item .ensures) (c .before .stop .given .1)))
+returns-2 c = sym (stopped _ (onward _ (c .before .before .before .before .before .before .before .loop .inv .1) (c .before .before .before .before .before .before .short-items .ensures .0 .2) (c .before .before .before .before .before .before .short-items .ensures .1)) (c .before .before .before .before .if1 .left) (told spanPaper (c .before .before .before .read-item .ensures) (c .before .stop .given .1)))
 
 pub pass-items-spec : {M : Type 1} → statement M
 pass-items-spec =
@@ -69,7 +59,7 @@ pass-items-spec =
     loop-holds
     short-items-requires
     returns
-    item-requires
+    read-item-requires
     enum-known-next
     add-passed
     loop-less

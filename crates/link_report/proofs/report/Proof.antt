@@ -14,40 +14,32 @@ use Rattle.link_report.proofs.report.Lts as lts
 use Rattle.io.proofs.write_all.Reads as write-all-reads
 use Rattle.reports.proofs.link.link_line.Reads as link-line-reads
 
--- src/main.rt:22:32
 slice-aggregate-link-line : tie.Need-slice-aggregate-link-line
 slice-aggregate-link-line c = search needs
 
--- src/main.rt:22:11
 link-line-requires : tie.Need-link-line-requires
 link-line-requires c κs = search needs
 
--- src/main.rt:23:22
 enum-known-m : tie.Need-enum-known-m
 enum-known-m c = search needs
 
--- src/main.rt:24:42
 array-share-prefix-line : tie.Need-array-share-prefix-line
 array-share-prefix-line c = omega (arith, written-within _ _ _ (told putPaper (c .before .before .before .before .link-line .ensures .0) (c .before .m .given .1)), c .before .before .before .before .link-line .kept .1 .1 .0)
 
--- src/main.rt:24:42
 slice-aggregate-write-all : tie.Need-slice-aggregate-write-all
 slice-aggregate-write-all c =
     let w = written-within _ _ _ (told putPaper (c .before .before .before .before .before .link-line .ensures .0) (c .before .before .m .given .1)) in
     sym (length-take-le (c .before .before .m .given .0 .0) (c .before .before .before .before .before .link-line .last .1 .1 .0) (omega (arith, w, c .before .before .before .before .before .link-line .kept .1 .1 .0)))
 
--- src/main.rt:24:13
 write-all-requires : tie.Need-write-all-requires
 write-all-requires c κs = search needs
 
 enum-told : tie.Need-enum-told
 enum-told c = search needs
 
--- src/main.rt:20:1
 returns : tie.Need-returns
 returns c = search needs
 
--- src/main.rt:20:1
 returns-2 : tie.Need-returns-2
 returns-2 c = search needs
 

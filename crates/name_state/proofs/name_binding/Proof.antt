@@ -1,7 +1,6 @@
 use borrow.Author.Needs.{needs}
 use native.Mathlib.Omega.{arith}
 use mathlib.Core.Path.{_≡_, ap, sym, _∙_}
-use borrow.Author.Tests.{not-true, not-false}
 use lib.ListN.{length}
 use lib.Seq.{length-take-le}
 use Rattle.names.specs.Paper.{shownHash}
@@ -10,10 +9,13 @@ use Rattle.name_state.proofs.Text.{text-within, text-long}
 use Rattle.name_state.proofs.Bound.{too-long, no-name, compared}
 use Rattle.name_state.proofs.name_binding.Statement.{statement}
 use Rattle.name_state.proofs.name_binding.Tie as tie
+use Rattle.name_state.proofs.name_binding.Reads as reads
+use Rattle.name_state.proofs.name_binding.Lts as lts
+use Rattle.name_state.proofs.key_binding.Reads as key-binding-reads
+use Rattle.names.proofs.hash_name.Reads as hash-name-reads
 
 returns : tie.Need-returns
-returns c =
-    too-long _ _ (omega (arith, text-long (c .before .args .n) (c .before .args .t1), c .if1 .taken))
+returns c = too-long _ _ (omega (arith, text-long (c .before .args .n) (c .before .args .t1), c .if1 .taken))
 
 array-share-prefix-name : tie.Need-array-share-prefix-name
 array-share-prefix-name c =
@@ -29,38 +31,32 @@ slice-aggregate-hash-name c =
 hash-name-requires : tie.Need-hash-name-requires
 hash-name-requires c κs = search needs
 
+enum-told : tie.Need-enum-told
+enum-told c = search needs
+
+key-binding-requires : tie.Need-key-binding-requires
+key-binding-requires c κs = search needs
+
 returns-2 : tie.Need-returns-2
 returns-2 c =
+    let a = c .before .before .before .before .before .before .args in
+    let h : length (a .t1) ≡ 63 = search needs in
+    let w = text-within (a .n) (a .t1) (omega (arith, h, c .before .before .before .before .before .if1 .left)) in
+    let f = c .before .before .before .hash-name in
+    let e = f .ensures ∙ ap (λ x. shownHash (nameHash x)) (sym w) in
+    c .key-binding .ensures ∙ compared _ _ (f .result) e (c .before .enum-told .given .1)
+
+enum-told-2 : tie.Need-enum-told-2
+enum-told-2 c = search needs
+
+returns-3 : tie.Need-returns-3
+returns-3 c =
     let a = c .before .before .before .before .before .args in
     let h : length (a .t1) ≡ 63 = search needs in
     let w = text-within (a .n) (a .t1) (omega (arith, h, c .before .before .before .before .if1 .left)) in
     let f = c .before .before .hash-name in
-    no-name _ _ (f .result) (f .ensures ∙ ap (λ x. shownHash (nameHash x)) (sym w)) (not-true (f .result .valid) (c .if2 .taken))
-
-slice-aggregate-same-bytes : tie.Need-slice-aggregate-same-bytes
-slice-aggregate-same-bytes c = search needs
-
-slice-aggregate-same-bytes-2 : tie.Need-slice-aggregate-same-bytes-2
-slice-aggregate-same-bytes-2 c = search needs
-
-same-bytes-requires : tie.Need-same-bytes-requires
-same-bytes-requires c κs = search needs
-
-returns-3 : tie.Need-returns-3
-returns-3 c =
-    let a = c .before .before .before .before .before .before .before .before .before .before .before .before .args in
-    let h : length (a .t1) ≡ 63 = search needs in
-    let w = text-within (a .n) (a .t1) (omega (arith, h, c .before .before .before .before .before .before .before .before .before .before .before .if1 .left)) in
-    let f = c .before .before .before .before .before .before .before .before .before .hash-name in
-    compared _ _ (f .result) (f .ensures ∙ ap (λ x. shownHash (nameHash x)) (sym w)) (not-false (f .result .valid) (c .before .before .before .before .before .before .before .if2 .left)) (sym (c .before .same-bytes .ensures) ∙ c .if3 .taken)
-
-returns-4 : tie.Need-returns-4
-returns-4 c =
-    let a = c .before .before .before .before .before .before .before .before .before .before .before .before .args in
-    let h : length (a .t1) ≡ 63 = search needs in
-    let w = text-within (a .n) (a .t1) (omega (arith, h, c .before .before .before .before .before .before .before .before .before .before .before .if1 .left)) in
-    let f = c .before .before .before .before .before .before .before .before .before .hash-name in
-    compared _ _ (f .result) (f .ensures ∙ ap (λ x. shownHash (nameHash x)) (sym w)) (not-false (f .result .valid) (c .before .before .before .before .before .before .before .if2 .left)) (sym (c .before .same-bytes .ensures) ∙ c .if3 .left)
+    let e = f .ensures ∙ ap (λ x. shownHash (nameHash x)) (sym w) in
+    no-name _ _ (f .result) e (c .enum-told2 .given .1)
 
 pub name-binding-spec : {M : Type 1} → statement M
 name-binding-spec =
@@ -70,9 +66,8 @@ name-binding-spec =
     array-share-prefix-name
     slice-aggregate-hash-name
     hash-name-requires
+    enum-told
+    key-binding-requires
     returns-2
-    slice-aggregate-same-bytes
-    slice-aggregate-same-bytes-2
-    same-bytes-requires
-    returns-3
-    returns-4)
+    enum-told-2
+    returns-3)

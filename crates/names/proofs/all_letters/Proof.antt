@@ -18,35 +18,27 @@ Inv-loop name i₀ i = (i ≤ length name) × (letters name ≡ letters (drop i 
 abbrev μ-loop : tie.MeasureT-loop
 μ-loop name i₀ i = length name - i
 
--- src/lib.rt:49:5
 loop-holds : tie.Need-loop-holds Inv-loop μ-loop
 loop-holds c = (omega arith, refl)
 
--- src/lib.rt:50:23
 shared-slice-read-is-letter : tie.Need-shared-slice-read-is-letter Inv-loop μ-loop
 shared-slice-read-is-letter c = search needs
 
--- src/lib.rt:50:13
 is-letter-requires : tie.Need-is-letter-requires Inv-loop μ-loop
 is-letter-requires c κs = search needs
 
--- src/lib.rt:51:13
 returns : tie.Need-returns Inv-loop μ-loop
 returns c = sym (c .before .before .before .before .loop .inv .1 ∙ letters-stop (c .before .before .before .before .before .before .args .name .now) (c .before .before .before .before .loop .i) (omega arith) (sym (c .before .is-letter .ensures) ∙ not-true _ (c .if1 .taken)))
 
--- src/lib.rt:53:13
 add-i : tie.Need-add-i Inv-loop μ-loop
 add-i c = search needs
 
--- src/lib.rt:49:5
 loop-less : tie.Need-loop-less Inv-loop μ-loop
 loop-less c = search needs
 
--- src/lib.rt:49:5
 loop-again : tie.Need-loop-again Inv-loop μ-loop
 loop-again c = (omega arith, c .before .before .before .before .loop .inv .1 ∙ letters-next (c .before .before .before .before .before .before .args .name .now) (c .before .before .before .before .loop .i) (omega arith) (sym (c .before .is-letter .ensures) ∙ not-false _ (c .if1 .left)))
 
--- src/lib.rt:45:1
 returns-2 : tie.Need-returns-2 Inv-loop μ-loop
 returns-2 c = sym (c .before .loop .inv .1 ∙ letters-end (c .before .before .before .args .name .now) (c .before .loop .i) (omega arith))
 

@@ -6,19 +6,15 @@ use Rattle.names.proofs.is_letter.Lts as lts
 use Rattle.names.proofs.is_mark.Reads as is-mark-reads
 use Rattle.names.proofs.is_plain.Reads as is-plain-reads
 
--- src/lib.rt:39:8
 is-plain-requires : tie.Need-is-plain-requires
 is-plain-requires c κs = search needs
 
--- src/lib.rt:40:9
 returns : tie.Need-returns
 returns c = rw (← c .before .is-plain .ensures, c .if1 .taken)
 
--- src/lib.rt:42:5
 is-mark-requires : tie.Need-is-mark-requires
 is-mark-requires c κs = search needs
 
--- src/lib.rt:36:1
 returns-2 : tie.Need-returns-2
 returns-2 c = rw (← c .before .before .is-plain .ensures, c .before .if1 .left) (c .is-mark .ensures)
 

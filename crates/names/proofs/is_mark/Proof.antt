@@ -5,12 +5,10 @@ use Rattle.names.proofs.is_mark.Tie as tie
 use Rattle.names.proofs.is_mark.Reads as reads
 use Rattle.names.proofs.is_mark.Lts as lts
 
--- src/lib.rt:31:9
 returns : tie.Need-returns
 unfolding mark
 returns c = rw (eq-eqb _ _ (c .if1 .taken))
 
--- src/lib.rt:27:1
 returns-2 : tie.Need-returns-2
 unfolding mark
 returns-2 c = rw (ne-eqb _ _ (c .if1 .left))

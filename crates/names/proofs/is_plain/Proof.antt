@@ -6,22 +6,18 @@ use Rattle.names.proofs.is_plain.Tie as tie
 use Rattle.names.proofs.is_plain.Reads as reads
 use Rattle.names.proofs.is_plain.Lts as lts
 
--- src/lib.rt:15:9
 returns : tie.Need-returns
 unfolding plain
 returns c = rw (lt-leb 48 _ (c .if1 .taken), lt-leb 97 (c .before .args .b) (omega arith))
 
--- src/lib.rt:18:9
 returns-2 : tie.Need-returns-2
 unfolding plain
 returns-2 c = rw (le-leb 48 _ (c .before .if1 .left), le-leb _ 57 (c .if2 .taken))
 
--- src/lib.rt:21:9
 returns-3 : tie.Need-returns-3
 unfolding plain
 returns-3 c = rw (le-leb 48 _ (c .before .before .if1 .left), lt-leb _ 57 (c .before .if2 .left), lt-leb 97 _ (c .if3 .taken))
 
--- src/lib.rt:11:1
 returns-4 : tie.Need-returns-4
 unfolding plain
 returns-4 c = rw (le-leb 48 _ (c .before .before .if1 .left), lt-leb _ 57 (c .before .if2 .left), le-leb 97 _ (c .if3 .left))

@@ -9,56 +9,44 @@ use Rattle.names.proofs.all_letters.Reads as all-letters-reads
 use Rattle.names.proofs.is_mark.Reads as is-mark-reads
 use Rattle.names.proofs.is_reserved.Reads as is-reserved-reads
 
--- src/lib.rt:86:9
 returns : tie.Need-returns
 unfolding validName
 returns c = rw (lt-leb 1 _ (c .if1 .taken))
 
--- src/lib.rt:89:9
 returns-2 : tie.Need-returns-2
 unfolding validName
 returns-2 c = rw (le-leb 1 _ (c .before .if1 .left), lt-leb _ 63 (c .if2 .taken))
 
--- src/lib.rt:91:9
 all-letters-requires : tie.Need-all-letters-requires
 all-letters-requires c κs = search needs
 
--- src/lib.rt:92:9
 returns-3 : tie.Need-returns-3
 unfolding validName
 returns-3 c = rw (le-leb 1 _ (c .before .before .before .if1 .left), le-leb _ 63 (c .before .before .if2 .left), ← c .before .all-letters .ensures, not-true (c .before .all-letters .result) (c .if3 .taken))
 
--- src/lib.rt:94:16
 shared-slice-read-is-mark : tie.Need-shared-slice-read-is-mark
 shared-slice-read-is-mark c = search needs
 
--- src/lib.rt:94:8
 is-mark-requires : tie.Need-is-mark-requires
 is-mark-requires c κs = search needs
 
--- src/lib.rt:95:9
 returns-4 : tie.Need-returns-4
 unfolding validName
 returns-4 c = rw (le-leb 1 _ (c .before .before .before .before .before .before .if1 .left), le-leb _ 63 (c .before .before .before .before .before .if2 .left), ← c .before .before .before .before .all-letters .ensures, not-false (c .before .before .before .before .all-letters .result) (c .before .before .before .if3 .left), ← c .before .is-mark .ensures, c .if4 .taken)
 
--- src/lib.rt:97:16
 shared-slice-read-is-mark-2 : tie.Need-shared-slice-read-is-mark-2
 shared-slice-read-is-mark-2 c = search needs
 
--- src/lib.rt:97:8
 is-mark-requires-2 : tie.Need-is-mark-requires-2
 is-mark-requires-2 c κs = search needs
 
--- src/lib.rt:98:9
 returns-5 : tie.Need-returns-5
 unfolding validName
 returns-5 c = rw (le-leb 1 _ (c .before .before .before .before .before .before .before .before .before .if1 .left), le-leb _ 63 (c .before .before .before .before .before .before .before .before .if2 .left), ← c .before .before .before .before .before .before .before .all-letters .ensures, not-false (c .before .before .before .before .before .before .before .all-letters .result) (c .before .before .before .before .before .before .if3 .left), ← c .before .before .before .before .is-mark .ensures, c .before .before .before .if4 .left, ← c .before .is-mark2 .ensures, c .if5 .taken)
 
--- src/lib.rt:100:6
 is-reserved-requires : tie.Need-is-reserved-requires
 is-reserved-requires c κs = search needs
 
--- src/lib.rt:81:1
 returns-6 : tie.Need-returns-6
 unfolding validName
 returns-6 c = rw (le-leb 1 _ (c .before .before .before .before .before .before .before .before .before .before .if1 .left), le-leb _ 63 (c .before .before .before .before .before .before .before .before .before .if2 .left), ← c .before .before .before .before .before .before .before .before .all-letters .ensures, not-false (c .before .before .before .before .before .before .before .before .all-letters .result) (c .before .before .before .before .before .before .before .if3 .left), ← c .before .before .before .before .before .is-mark .ensures, c .before .before .before .before .if4 .left, ← c .before .before .is-mark2 .ensures, c .before .if5 .left, ← c .is-reserved .ensures)

@@ -1,4 +1,7 @@
 use borrow.Author.Needs.{needs}
+use mathlib.Core.Path.{sym, _∙_}
+use borrow.Author.Tests.{leb-true}
+use Rattle.words.proofs.Sameness.{and-true}
 use Rattle.samples.proofs.run_bytes.Statement.{statement}
 use Rattle.samples.proofs.run_bytes.Tie as tie
 
@@ -6,7 +9,7 @@ is-headed-requires : tie.Need-is-headed-requires
 is-headed-requires c κs = search needs
 
 run-requires : tie.Need-run-requires
-run-requires c κs = (c .before .before .is-headed .ensures (c .before .if1 .taken), search needs)
+run-requires c κs = (leb-true _ _ (and-true _ _ (sym (c .before .before .is-headed .ensures) ∙ c .before .if1 .taken) .0), search needs)
 
 same-length : tie.Need-same-length
 same-length c = search needs

@@ -8,15 +8,12 @@ use borrow.Author.Needs.{needs}
 use Rattle.sha3.proofs.absorb_block.Statement.{statement}
 use Rattle.sha3.proofs.absorb_block.Tie as tie
 
--- src/lib.rt:37:21
 mix-requires : tie.Need-mix-requires
 mix-requires c κs = search needs
 
--- src/lib.rt:37:9
 permute-requires : tie.Need-permute-requires
 permute-requires c κs = search needs
 
--- src/lib.rt:32:1
 returns : tie.Need-returns
 unfolding block
 returns c =

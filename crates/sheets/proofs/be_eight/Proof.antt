@@ -8,20 +8,13 @@ use Rattle.words.proofs.Le.{bytes-le, part-long, part-bytes}
 use Rattle.sheets.specs.Sheet.{be}
 use Rattle.sheets.proofs.be_eight.Statement.{statement}
 use Rattle.sheets.proofs.be_eight.Tie as tie
-use Rattle.sheets.proofs.be_eight.Reads as reads
-use Rattle.sheets.proofs.be_eight.Lts as lts
-use Rattle.sheets.proofs.turned.Reads as turned-reads
-use Rattle.words.proofs.load.load_u64.Reads as load-u64-reads
 
--- src/lib.rt:108:12
 load-u64-requires : tie.Need-load-u64-requires
 load-u64-requires c κs = search needs
 
--- src/lib.rt:108:5
 turned-requires : tie.Need-turned-requires
 turned-requires c κs = search needs
 
--- src/lib.rt:104:1
 returns : tie.Need-returns
 returns c =
     let a = c .before .before .before .args in

@@ -3,7 +3,7 @@ use mathlib.Core.Path.{sym}
 use Rattle.refusal.proofs.Outcomes.{told}
 use Rattle.encoding.specs.Paper.{spanPaper}
 use Rattle.covenants.specs.Paper.{covenantPaper}
-use Rattle.sheets.specs.Sheet.{bodyAt}
+use Rattle.sheets.specs.Sheet.{placeBodyAt}
 use Rattle.sheets.proofs.Reading.{body-placed, body-stopped}
 use Rattle.sheets.proofs.body.Statement.{statement}
 use Rattle.sheets.proofs.body.Tie as tie
@@ -33,7 +33,7 @@ returns-2 : tie.Need-returns-2
 returns-2 c = sym (body-stopped _ _ _ _ _ (told spanPaper (c .before .before .before .before .before .before .before .read-slice .ensures) (c .before .before .before .before .before .start .given .1)) (told covenantPaper (c .before .before .before .read .ensures) (c .before .stop .given .1)))
 
 returns-3 : tie.Need-returns-3
-unfolding bodyAt
+unfolding placeBodyAt
 returns-3 c = rw (← c .before .before .before .read-slice .ensures, c .before .stop2 .given .1)
 
 pub body-spec : {M : Type 1} → statement M

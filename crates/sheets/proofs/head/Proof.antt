@@ -3,7 +3,7 @@ use native.Mathlib.Omega.{arith}
 use Rattle.refusal.proofs.Outcomes.{told}
 use Rattle.encoding.specs.Paper.{spanPaper}
 use Rattle.encoding.proofs.Slice as slice
-use Rattle.sheets.specs.Sheet.{headAt}
+use Rattle.sheets.specs.Sheet.{sheetHeadAt}
 use Rattle.sheets.proofs.head.Statement.{statement}
 use Rattle.sheets.proofs.head.Tie as tie
 
@@ -23,11 +23,11 @@ enum-known-stop : tie.Need-enum-known-stop
 enum-known-stop c = search needs
 
 returns : tie.Need-returns
-unfolding headAt
+unfolding sheetHeadAt
 returns c = rw (← c .before .before .before .before .before .read-slice .ensures, c .before .before .before .next .given .1, ← c .before .be-at .ensures .0) (c .head-fields .ensures)
 
 returns-2 : tie.Need-returns-2
-unfolding headAt
+unfolding sheetHeadAt
 returns-2 c = rw (← c .before .before .before .read-slice .ensures, c .before .stop .given .1)
 
 pub head-spec : {M : Type 1} → statement M

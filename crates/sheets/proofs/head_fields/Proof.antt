@@ -1,4 +1,5 @@
 use borrow.Author.Needs.{needs}
+use native.Mathlib.Omega.{arith}
 use mathlib.Core.Path.{sym, _∙_}
 use borrow.Author.Tests.{eq-eqb, ne-eqb}
 use Rattle.sheets.specs.Sheet.{headFields}
@@ -32,6 +33,9 @@ returns-3 : tie.Need-returns-3
 unfolding headFields
 returns-3 c = rw (eq-eqb _ _ (c .before .before .before .before .before .before .if1 .left), eq-eqb _ _ (c .before .before .before .before .if2 .left ∙ c .before .before .before .before .before .wide .ensures), ← c .before .before .before .outputs-allowed .ensures, c .before .before .if3 .taken, ne-eqb _ _ (c .before .if4 .taken), c .wrong-field3 .ensures .0, c .wrong-field3 .ensures .1)
 
+cast-t15 : tie.Need-cast-t15
+cast-t15 c = omega (arith, c .before .before .before .before .before .if1 .left)
+
 returns-4 : tie.Need-returns-4
 unfolding headFields
 returns-4 c = rw (eq-eqb _ _ (c .before .before .before .before .before .if1 .left), eq-eqb _ _ (c .before .before .before .if2 .left ∙ c .before .before .before .before .wide .ensures), ← c .before .before .outputs-allowed .ensures, c .before .if3 .taken, eq-eqb _ _ (c .if4 .left))
@@ -55,6 +59,7 @@ head-fields-spec =
     outputs-allowed-requires
     wrong-field-requires-3
     returns-3
+    cast-t15
     returns-4
     wrong-field-requires-4
     returns-5)

@@ -29,8 +29,8 @@ cast-t14 c = search needs
 enum-known-stop : tie.Need-enum-known-stop
 enum-known-stop c = search needs
 
-no-outpoint-requires : tie.Need-no-outpoint-requires
-no-outpoint-requires c κs = search needs
+refused-requires : tie.Need-refused-requires
+refused-requires c κs = search needs
 
 returns : tie.Need-returns
 unfolding inputAt
@@ -40,7 +40,7 @@ returns c = let p = slice.read _ _ _ (omega arith) (told spanPaper (c .before .b
 
 returns-2 : tie.Need-returns-2
 unfolding inputAt
-returns-2 c = rw (← c .before .before .before .before .read-slice .ensures, c .before .before .stop .given .1, c .no-outpoint .ensures)
+returns-2 c = rw (← c .before .before .before .before .read-slice .ensures, c .before .before .stop .given .1, c .refused .ensures)
 
 pub input-at-spec : {M : Type 1} → statement M
 input-at-spec =
@@ -53,6 +53,6 @@ input-at-spec =
     be-at-requires
     cast-t14
     enum-known-stop
-    no-outpoint-requires
+    refused-requires
     returns
     returns-2)

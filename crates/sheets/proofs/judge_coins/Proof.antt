@@ -17,8 +17,8 @@ returns c = sheet-long _ _ _ _ (c .if1 .taken)
 head-requires : tie.Need-head-requires
 head-requires c κs = search needs
 
-enum-known-coins : tie.Need-enum-known-coins
-enum-known-coins c = search needs
+enum-known-version : tie.Need-enum-known-version
+enum-known-version c = search needs
 
 pass-coins-requires : tie.Need-pass-coins-requires
 pass-coins-requires c κs = search needs
@@ -43,11 +43,11 @@ refused-requires-2 c κs = search needs
 
 returns-2 : tie.Need-returns-2
 unfolding coinCounts coinsAt
-returns-2 c = sheet-whole _ _ _ _ (c .before .before .before .before .before .before .before .before .if1 .left) (told headPaper (c .before .before .before .before .before .before .before .head .ensures) (c .before .before .before .before .before .coins .given .1)) (λ a p e. ap (λ (n : ℕ). (n, 0)) (many-long _ _ _ e)) ((rw (c .before .before .before .pass-coins .ensures) at (sym (c .before .before .ends .ensures))) ∙ ap movedPaper (c .enum-told .given .1))
+returns-2 c = sheet-whole _ _ _ _ (c .before .before .before .before .before .before .before .before .if1 .left) (told headPaper (c .before .before .before .before .before .before .before .head .ensures) (c .before .before .before .before .before .version .given .1)) (λ a p e. ap (λ (n : ℕ). (n, 0)) (many-long _ _ _ e)) ((rw (c .before .before .before .pass-coins .ensures) at (sym (c .before .before .ends .ensures))) ∙ ap movedPaper (c .enum-told .given .1))
 
 returns-3 : tie.Need-returns-3
 unfolding coinCounts coinsAt
-returns-3 c = rw (c .refused .ensures) (sheet-cut _ _ _ _ (c .before .before .before .before .before .before .before .before .before .before .if1 .left) (told headPaper (c .before .before .before .before .before .before .before .before .before .head .ensures) (c .before .before .before .before .before .before .before .coins .given .1)) ((rw (c .before .before .before .before .before .pass-coins .ensures) at (sym (c .before .before .before .before .ends .ensures))) ∙ ap movedPaper (c .before .before .stop .given .1)))
+returns-3 c = rw (c .refused .ensures) (sheet-cut _ _ _ _ (c .before .before .before .before .before .before .before .before .before .before .if1 .left) (told headPaper (c .before .before .before .before .before .before .before .before .before .head .ensures) (c .before .before .before .before .before .before .before .version .given .1)) ((rw (c .before .before .before .before .before .pass-coins .ensures) at (sym (c .before .before .before .before .ends .ensures))) ∙ ap movedPaper (c .before .before .stop .given .1)))
 
 returns-4 : tie.Need-returns-4
 unfolding coinCounts coinsAt
@@ -59,7 +59,7 @@ judge-coins-spec =
     (tie.spec
     returns
     head-requires
-    enum-known-coins
+    enum-known-version
     pass-coins-requires
     ends-requires
     enum-told

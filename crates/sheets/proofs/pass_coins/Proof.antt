@@ -9,10 +9,10 @@ use Rattle.sheets.proofs.pass_coins.Statement.{statement}
 use Rattle.sheets.proofs.pass_coins.Tie as tie
 
 abbrev Inv-loop : tie.InvT-loop
-Inv-loop s n c₀ i₀ c i = Passing (coinAt s) n (c₀ .position) (c .position) i
+Inv-loop s version n c₀ i₀ c i = Passing (coinAt version s) n (c₀ .position) (c .position) i
 
 abbrev μ-loop : tie.MeasureT-loop
-μ-loop s n c₀ i₀ c i = n - i
+μ-loop s version n c₀ i₀ c i = n - i
 
 loop-holds : tie.Need-loop-holds Inv-loop μ-loop
 loop-holds c = begin _ _ _

@@ -4,27 +4,21 @@ use Rattle.capi.specs.Amounts.{amountFlat}
 use Rattle.capi.proofs.amounts.amount_answer.Statement.{statement}
 use Rattle.capi.proofs.amounts.amount_answer.Tie as tie
 
--- src/amounts.rt:19:24
 enum-known-checked : tie.Need-enum-known-checked
 enum-known-checked c = search needs
 
--- src/amounts.rt:23:30
 enum-told : tie.Need-enum-told
 enum-told c = search needs
 
--- src/amounts.rt:27:31
 enum-told-2 : tie.Need-enum-told-2
 enum-told-2 c = search needs
 
--- src/amounts.rt:15:1
 returns : tie.Need-returns
 returns c = ap amountFlat (sym (c .before .checked .given .1))
 
--- src/amounts.rt:15:1
 returns-2 : tie.Need-returns-2
 returns-2 c = ap amountFlat (sym (c .enum-told .given .1))
 
--- src/amounts.rt:15:1
 returns-3 : tie.Need-returns-3
 returns-3 c = ap amountFlat (sym (c .enum-told2 .given .1))
 

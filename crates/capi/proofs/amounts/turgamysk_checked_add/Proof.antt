@@ -4,15 +4,12 @@ use Rattle.capi.specs.Amounts.{amountFlat}
 use Rattle.capi.proofs.amounts.turgamysk_checked_add.Statement.{statement}
 use Rattle.capi.proofs.amounts.turgamysk_checked_add.Tie as tie
 
--- src/amounts.rt:39:19
 checked-add-requires : tie.Need-checked-add-requires
 checked-add-requires c κs = search needs
 
--- src/amounts.rt:39:5
 amount-answer-requires : tie.Need-amount-answer-requires
 amount-answer-requires c κs = search needs
 
--- src/amounts.rt:34:1
 returns : tie.Need-returns
 returns c = c .amount-answer .ensures ∙ ap amountFlat (c .before .checked-add .ensures)
 

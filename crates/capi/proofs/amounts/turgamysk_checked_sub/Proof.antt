@@ -4,15 +4,12 @@ use Rattle.capi.specs.Amounts.{amountFlat}
 use Rattle.capi.proofs.amounts.turgamysk_checked_sub.Statement.{statement}
 use Rattle.capi.proofs.amounts.turgamysk_checked_sub.Tie as tie
 
--- src/amounts.rt:47:19
 checked-sub-requires : tie.Need-checked-sub-requires
 checked-sub-requires c κs = search needs
 
--- src/amounts.rt:47:5
 amount-answer-requires : tie.Need-amount-answer-requires
 amount-answer-requires c κs = search needs
 
--- src/amounts.rt:42:1
 returns : tie.Need-returns
 returns c = c .amount-answer .ensures ∙ ap amountFlat (c .before .checked-sub .ensures)
 

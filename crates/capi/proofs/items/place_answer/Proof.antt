@@ -8,19 +8,15 @@ use Rattle.capi.proofs.items.place_answer.Tie as tie
 use Rattle.capi.proofs.items.place_answer.Reads as reads
 use Rattle.capi.proofs.items.place_answer.Lts as lts
 
--- src/items.rt:155:22
 enum-known-spot : tie.Need-enum-known-spot
 enum-known-spot c = search needs
 
--- src/items.rt:160:25
 enum-told : tie.Need-enum-told
 enum-told c = search needs
 
--- src/items.rt:151:1
 returns : tie.Need-returns
 returns c = ap (λ r. placeFlat (spotPaper r)) (sym (c .before .spot .given .1))
 
--- src/items.rt:151:1
 returns-2 : tie.Need-returns-2
 returns-2 c = ap (λ r. placeFlat (spotPaper r)) (sym (c .enum-told .given .1))
 

@@ -1,7 +1,7 @@
 use borrow.Author.Needs.{needs}
 use native.Mathlib.Omega.{arith}
 use mathlib.Core.Path.{_≡_, refl, ap, sym, _∙_}
-use Rattle.covenants.specs.Paper.{runEndPaper}
+use Rattle.runs.specs.Paper.{runEndPaper}
 use Rattle.capi.specs.Items.{runFlat}
 use Rattle.capi.proofs.items.run_answer.Statement.{statement}
 use Rattle.capi.proofs.items.run_answer.Tie as tie
@@ -10,27 +10,21 @@ use Rattle.capi.proofs.items.run_answer.Lts as lts
 use Rattle.refusal.proofs.carried_by.Reads as carried-by-reads
 use Rattle.refusal.proofs.number.Reads as number-reads
 
--- src/items.rt:128:23
 enum-known-end : tie.Need-enum-known-end
 enum-known-end c = search needs
 
--- src/items.rt:136:27
 enum-known-end-2 : tie.Need-enum-known-end-2
 enum-known-end-2 c = search needs
 
--- src/items.rt:138:17
 carried-by-requires : tie.Need-carried-by-requires
 carried-by-requires c κs = search needs
 
--- src/items.rt:140:25
 number-requires : tie.Need-number-requires
 number-requires c κs = search needs
 
--- src/items.rt:124:1
 returns : tie.Need-returns
 returns c = ap (λ r. runFlat (runEndPaper r)) (sym (c .before .end .given .1))
 
--- src/items.rt:124:1
 returns-2 : tie.Need-returns-2
 returns-2 c = rw (c .before .before .before .end2 .given .1, c .number .ensures, c .before .carried-by .ensures)
 

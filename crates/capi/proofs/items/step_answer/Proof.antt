@@ -1,7 +1,7 @@
 use borrow.Author.Needs.{needs}
 use native.Mathlib.Omega.{arith}
 use mathlib.Core.Path.{_≡_, refl, ap, sym, _∙_}
-use Rattle.covenants.specs.Paper.{stepPaper}
+use Rattle.runs.specs.Paper.{stepPaper}
 use Rattle.capi.specs.Items.{stepFlat}
 use Rattle.capi.proofs.items.step_answer.Statement.{statement}
 use Rattle.capi.proofs.items.step_answer.Tie as tie
@@ -10,35 +10,27 @@ use Rattle.capi.proofs.items.step_answer.Lts as lts
 use Rattle.refusal.proofs.carried_by.Reads as carried-by-reads
 use Rattle.refusal.proofs.number.Reads as number-reads
 
--- src/items.rt:74:13
 enum-known-step : tie.Need-enum-known-step
 enum-known-step c = search needs
 
--- src/items.rt:93:21
 enum-known-step-2 : tie.Need-enum-known-step-2
 enum-known-step-2 c = search needs
 
--- src/items.rt:105:25
 enum-known-step-3 : tie.Need-enum-known-step-3
 enum-known-step-3 c = search needs
 
--- src/items.rt:107:17
 carried-by-requires : tie.Need-carried-by-requires
 carried-by-requires c κs = search needs
 
--- src/items.rt:109:25
 number-requires : tie.Need-number-requires
 number-requires c κs = search needs
 
--- src/items.rt:69:1
 returns : tie.Need-returns
 returns c = ap (λ r. stepFlat (stepPaper r)) (sym (c .before .before .step .given .1))
 
--- src/items.rt:69:1
 returns-2 : tie.Need-returns-2
 returns-2 c = ap (λ r. stepFlat (stepPaper r)) (sym (c .before .step2 .given .1))
 
--- src/items.rt:69:1
 returns-3 : tie.Need-returns-3
 returns-3 c = rw (c .before .before .before .step3 .given .1, c .number .ensures, c .before .carried-by .ensures)
 

@@ -9,15 +9,12 @@ use Rattle.capi.proofs.items.turgamysk_covenant_encoded_size.Lts as lts
 use Rattle.capi.proofs.write_answer.Reads as write-answer-reads
 use Rattle.covenants.proofs.write.encoded_size.Reads as encoded-size-reads
 
--- src/items.rt:313:18
 encoded-size-requires : tie.Need-encoded-size-requires
 encoded-size-requires c κs = search needs
 
--- src/items.rt:313:5
 write-answer-requires : tie.Need-write-answer-requires
 write-answer-requires c κs = search needs
 
--- src/items.rt:304:1
 returns : tie.Need-returns
 returns c = c .write-answer .ensures ∙ ap writeFlat (c .before .encoded-size .ensures)
 

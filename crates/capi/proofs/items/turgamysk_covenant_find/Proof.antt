@@ -9,15 +9,12 @@ use Rattle.capi.proofs.items.turgamysk_covenant_find.Lts as lts
 use Rattle.capi.proofs.items.place_answer.Reads as place-answer-reads
 use Rattle.covenants.proofs.items.find.Reads as find-reads
 
--- src/items.rt:221:18
 find-requires : tie.Need-find-requires
 find-requires c κs = search needs
 
--- src/items.rt:221:5
 place-answer-requires : tie.Need-place-answer-requires
 place-answer-requires c κs = search needs
 
--- src/items.rt:213:1
 returns : tie.Need-returns
 returns c = c .place-answer .ensures ∙ ap placeFlat (c .before .find .ensures)
 

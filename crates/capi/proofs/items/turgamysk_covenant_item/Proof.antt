@@ -9,15 +9,12 @@ use Rattle.capi.proofs.items.turgamysk_covenant_item.Lts as lts
 use Rattle.capi.proofs.items.place_answer.Reads as place-answer-reads
 use Rattle.covenants.proofs.items.item.Reads as item-reads
 
--- src/items.rt:234:18
 item-requires : tie.Need-item-requires
 item-requires c κs = search needs
 
--- src/items.rt:234:5
 place-answer-requires : tie.Need-place-answer-requires
 place-answer-requires c κs = search needs
 
--- src/items.rt:224:1
 returns : tie.Need-returns
 returns c = c .place-answer .ensures ∙ ap placeFlat (c .before .item .ensures)
 

@@ -10,11 +10,9 @@ use Rattle.capi.proofs.items.turgamysk_covenant_item_name_hash.Reads as
 use Rattle.capi.proofs.items.turgamysk_covenant_item_name_hash.Lts as lts
 use Rattle.covenants.proofs.items.item_name_hash.Reads as item-name-hash-reads
 
--- src/items.rt:297:9
 item-name-hash-requires : tie.Need-item-name-hash-requires
 item-name-hash-requires c κs = search needs
 
--- src/items.rt:285:1
 returns : tie.Need-returns
 returns c = (ap (λ (t : Bool × List ℕ). t .0) (c .before .before .item-name-hash .ensures), ap (λ (t : Bool × List ℕ). t .1) (c .before .before .item-name-hash .ensures))
 

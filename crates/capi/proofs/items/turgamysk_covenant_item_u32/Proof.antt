@@ -9,35 +9,27 @@ use Rattle.capi.proofs.items.an_item.Reads as an-item-reads
 use Rattle.capi.proofs.items.no_item.Reads as no-item-reads
 use Rattle.covenants.proofs.items.item_u32.Reads as item-u32-reads
 
--- src/items.rt:263:11
 item-u32-requires : tie.Need-item-u32-requires
 item-u32-requires c κs = search needs
 
--- src/items.rt:264:24
 enum-known-v : tie.Need-enum-known-v
 enum-known-v c = search needs
 
--- src/items.rt:264:38
 cast-an-item : tie.Need-cast-an-item
 cast-an-item c = search needs
 
--- src/items.rt:264:30
 an-item-requires : tie.Need-an-item-requires
 an-item-requires c κs = search needs
 
--- src/items.rt:265:28
 enum-told : tie.Need-enum-told
 enum-told c = search needs
 
--- src/items.rt:265:28
 no-item-requires : tie.Need-no-item-requires
 no-item-requires c κs = search needs
 
--- src/items.rt:253:1
 returns : tie.Need-returns
 returns c = rw (← c .before .before .before .before .item-u32 .ensures, c .before .before .v .given .1) (c .an-item .ensures)
 
--- src/items.rt:253:1
 returns-2 : tie.Need-returns-2
 returns-2 c = rw (← c .before .before .before .item-u32 .ensures, c .before .enum-told .given .1) (c .no-item .ensures)
 

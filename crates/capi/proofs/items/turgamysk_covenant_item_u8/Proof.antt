@@ -9,35 +9,27 @@ use Rattle.capi.proofs.items.an_item.Reads as an-item-reads
 use Rattle.capi.proofs.items.no_item.Reads as no-item-reads
 use Rattle.covenants.proofs.items.item_u8.Reads as item-u8-reads
 
--- src/items.rt:247:11
 item-u8-requires : tie.Need-item-u8-requires
 item-u8-requires c κs = search needs
 
--- src/items.rt:248:23
 enum-known-v : tie.Need-enum-known-v
 enum-known-v c = search needs
 
--- src/items.rt:248:37
 cast-an-item : tie.Need-cast-an-item
 cast-an-item c = search needs
 
--- src/items.rt:248:29
 an-item-requires : tie.Need-an-item-requires
 an-item-requires c κs = search needs
 
--- src/items.rt:249:27
 enum-told : tie.Need-enum-told
 enum-told c = search needs
 
--- src/items.rt:249:27
 no-item-requires : tie.Need-no-item-requires
 no-item-requires c κs = search needs
 
--- src/items.rt:237:1
 returns : tie.Need-returns
 returns c = rw (← c .before .before .before .before .item-u8 .ensures, c .before .before .v .given .1) (c .an-item .ensures)
 
--- src/items.rt:237:1
 returns-2 : tie.Need-returns-2
 returns-2 c = rw (← c .before .before .before .item-u8 .ensures, c .before .enum-told .given .1) (c .no-item .ensures)
 

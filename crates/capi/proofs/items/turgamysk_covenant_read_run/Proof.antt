@@ -7,20 +7,16 @@ use Rattle.capi.proofs.items.turgamysk_covenant_read_run.Tie as tie
 use Rattle.capi.proofs.items.turgamysk_covenant_read_run.Reads as reads
 use Rattle.capi.proofs.items.turgamysk_covenant_read_run.Lts as lts
 use Rattle.capi.proofs.items.run_answer.Reads as run-answer-reads
-use Rattle.covenants.proofs.run.read_run.Reads as read-run-reads
+use Rattle.runs.proofs.read_run.Reads as read-run-reads
 
--- src/items.rt:208:16
 read-run-requires : tie.Need-read-run-requires
 read-run-requires c κs = search needs
 
--- src/items.rt:208:5
 run-answer-requires : tie.Need-run-answer-requires
 run-answer-requires c κs = search needs
 
--- src/items.rt:204:1
 returns : tie.Need-returns
 returns c = c .run-answer .ensures ∙ ap runFlat (c .before .read-run .ensures)
 
 pub turgamysk-covenant-read-run-spec : {M : Type 1} → statement M
-turgamysk-covenant-read-run-spec =
-    tie.close (tie.spec read-run-requires run-answer-requires returns)
+turgamysk-covenant-read-run-spec = tie.close (tie.spec read-run-requires run-answer-requires returns)

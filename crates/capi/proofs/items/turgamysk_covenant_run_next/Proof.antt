@@ -7,17 +7,14 @@ use Rattle.capi.proofs.items.turgamysk_covenant_run_next.Tie as tie
 use Rattle.capi.proofs.items.turgamysk_covenant_run_next.Reads as reads
 use Rattle.capi.proofs.items.turgamysk_covenant_run_next.Lts as lts
 use Rattle.capi.proofs.items.step_answer.Reads as step-answer-reads
-use Rattle.covenants.proofs.run.Run.next.Reads as next-reads
+use Rattle.runs.proofs.Run.next.Reads as next-reads
 
--- src/items.rt:201:17
 next-requires : tie.Need-next-requires
 next-requires c κs = search needs
 
--- src/items.rt:201:5
 step-answer-requires : tie.Need-step-answer-requires
 step-answer-requires c κs = search needs
 
--- src/items.rt:188:1
 returns : tie.Need-returns
 returns c = c .step-answer .ensures ∙ ap stepFlat (c .before .next .ensures)
 

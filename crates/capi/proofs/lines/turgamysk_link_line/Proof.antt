@@ -4,19 +4,15 @@ use Rattle.capi.specs.Flat.{writeFlat}
 use Rattle.capi.proofs.lines.turgamysk_link_line.Statement.{statement}
 use Rattle.capi.proofs.lines.turgamysk_link_line.Tie as tie
 
--- src/lines.rt:18:18
 link-line-requires : tie.Need-link-line-requires
 link-line-requires c κs = search needs
 
--- src/lines.rt:18:5
 write-answer-requires : tie.Need-write-answer-requires
 write-answer-requires c κs = search needs
 
--- src/lines.rt:13:1
 same-length : tie.Need-same-length
 same-length c = search needs
 
--- src/lines.rt:13:1
 returns : tie.Need-returns
 returns c = (c .write-answer .ensures ∙ ap writeFlat (c .before .before .before .link-line .ensures .0), c .before .before .before .link-line .ensures .1)
 

@@ -4,19 +4,15 @@ use Rattle.capi.specs.Flat.{writeFlat}
 use Rattle.capi.proofs.lines.turgamysk_name_line.Statement.{statement}
 use Rattle.capi.proofs.lines.turgamysk_name_line.Tie as tie
 
--- src/lines.rt:26:18
 name-line-requires : tie.Need-name-line-requires
 name-line-requires c κs = search needs
 
--- src/lines.rt:26:5
 write-answer-requires : tie.Need-write-answer-requires
 write-answer-requires c κs = search needs
 
--- src/lines.rt:21:1
 same-length : tie.Need-same-length
 same-length c = search needs
 
--- src/lines.rt:21:1
 returns : tie.Need-returns
 returns c = (c .write-answer .ensures ∙ ap writeFlat (c .before .before .before .name-line .ensures .0), c .before .before .before .name-line .ensures .1)
 

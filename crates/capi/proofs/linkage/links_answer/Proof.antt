@@ -8,27 +8,21 @@ use Rattle.capi.proofs.linkage.links_answer.Lts as lts
 use Rattle.refusal.proofs.carried_by.Reads as carried-by-reads
 use Rattle.refusal.proofs.number.Reads as number-reads
 
--- src/linkage.rt:35:23
 enum-known-links : tie.Need-enum-known-links
 enum-known-links c = search needs
 
--- src/linkage.rt:47:26
 enum-known-links-2 : tie.Need-enum-known-links-2
 enum-known-links-2 c = search needs
 
--- src/linkage.rt:48:17
 carried-by-requires : tie.Need-carried-by-requires
 carried-by-requires c κs = search needs
 
--- src/linkage.rt:50:25
 number-requires : tie.Need-number-requires
 number-requires c κs = search needs
 
--- src/linkage.rt:28:1
 returns : tie.Need-returns
 returns c = rw (c .before .links .given .1)
 
--- src/linkage.rt:28:1
 returns-2 : tie.Need-returns-2
 returns-2 c = rw (c .before .before .before .links2 .given .1, c .number .ensures, c .before .carried-by .ensures)
 

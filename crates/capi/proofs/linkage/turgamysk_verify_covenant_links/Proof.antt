@@ -9,15 +9,12 @@ use Rattle.capi.proofs.linkage.turgamysk_verify_covenant_links.Lts as l
 use Rattle.capi.proofs.linkage.links_answer.Reads as links-answer-reads
 use Rattle.links.proofs.verify_covenant_links.Reads as verify-covenant-links-reads
 
--- src/linkage.rt:68:18
 verify-covenant-links-requires : tie.Need-verify-covenant-links-requires
 verify-covenant-links-requires c κs = search needs
 
--- src/linkage.rt:68:5
 links-answer-requires : tie.Need-links-answer-requires
 links-answer-requires c κs = search needs
 
--- src/linkage.rt:65:1
 returns : tie.Need-returns
 returns c = c .links-answer .ensures ∙ ap linksFlat (c .before .verify-covenant-links .ensures)
 

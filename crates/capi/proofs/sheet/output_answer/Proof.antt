@@ -5,27 +5,21 @@ use Rattle.capi.specs.Sheet.{outputFlat}
 use Rattle.capi.proofs.sheet.output_answer.Statement.{statement}
 use Rattle.capi.proofs.sheet.output_answer.Tie as tie
 
--- src/sheet.rt:91:27
 enum-known-read : tie.Need-enum-known-read
 enum-known-read c = search needs
 
--- src/sheet.rt:104:28
 enum-known-read-2 : tie.Need-enum-known-read-2
 enum-known-read-2 c = search needs
 
--- src/sheet.rt:106:17
 carried-by-requires : tie.Need-carried-by-requires
 carried-by-requires c κs = search needs
 
--- src/sheet.rt:108:25
 number-requires : tie.Need-number-requires
 number-requires c κs = search needs
 
--- src/sheet.rt:87:1
 returns : tie.Need-returns
 returns c = ap (λ r. outputFlat (placePaper r)) (sym (c .before .read .given .1))
 
--- src/sheet.rt:87:1
 returns-2 : tie.Need-returns-2
 returns-2 c = rw (c .before .before .before .read2 .given .1, c .number .ensures, c .before .carried-by .ensures)
 

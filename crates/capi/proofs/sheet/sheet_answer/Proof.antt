@@ -10,27 +10,21 @@ use Rattle.capi.proofs.sheet.sheet_answer.Lts as lts
 use Rattle.refusal.proofs.carried_by.Reads as carried-by-reads
 use Rattle.refusal.proofs.number.Reads as number-reads
 
--- src/sheet.rt:39:27
 enum-known-read : tie.Need-enum-known-read
 enum-known-read c = search needs
 
--- src/sheet.rt:48:30
 enum-known-read-2 : tie.Need-enum-known-read-2
 enum-known-read-2 c = search needs
 
--- src/sheet.rt:49:17
 carried-by-requires : tie.Need-carried-by-requires
 carried-by-requires c κs = search needs
 
--- src/sheet.rt:51:25
 number-requires : tie.Need-number-requires
 number-requires c κs = search needs
 
--- src/sheet.rt:35:1
 returns : tie.Need-returns
 returns c = ap (λ r. sheetFlat (sheetPaper r)) (sym (c .before .read .given .1))
 
--- src/sheet.rt:35:1
 returns-2 : tie.Need-returns-2
 returns-2 c = rw (c .before .before .before .read2 .given .1, c .number .ensures, c .before .carried-by .ensures)
 

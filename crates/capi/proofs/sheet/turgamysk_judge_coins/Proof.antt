@@ -9,15 +9,12 @@ use Rattle.capi.proofs.sheet.turgamysk_judge_coins.Lts as lts
 use Rattle.capi.proofs.sheet.sheet_answer.Reads as sheet-answer-reads
 use Rattle.sheets.proofs.judge_coins.Reads as judge-coins-reads
 
--- src/sheet.rt:96:18
 judge-coins-requires : tie.Need-judge-coins-requires
 judge-coins-requires c κs = search needs
 
--- src/sheet.rt:96:5
 sheet-answer-requires : tie.Need-sheet-answer-requires
 sheet-answer-requires c κs = search needs
 
--- src/sheet.rt:92:1
 returns : tie.Need-returns
 returns c = c .sheet-answer .ensures ∙ ap sheetFlat (c .before .judge-coins .ensures)
 

@@ -9,15 +9,12 @@ use Rattle.capi.proofs.sheet.turgamysk_judge_transaction.Lts as lts
 use Rattle.capi.proofs.sheet.sheet_answer.Reads as sheet-answer-reads
 use Rattle.sheets.proofs.judge_transaction.Reads as judge-transaction-reads
 
--- src/sheet.rt:89:18
 judge-transaction-requires : tie.Need-judge-transaction-requires
 judge-transaction-requires c κs = search needs
 
--- src/sheet.rt:89:5
 sheet-answer-requires : tie.Need-sheet-answer-requires
 sheet-answer-requires c κs = search needs
 
--- src/sheet.rt:85:1
 returns : tie.Need-returns
 returns c = c .sheet-answer .ensures ∙ ap sheetFlat (c .before .judge-transaction .ensures)
 

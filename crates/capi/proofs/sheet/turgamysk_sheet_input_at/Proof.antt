@@ -4,15 +4,12 @@ use Rattle.capi.specs.Reading.{outpointFlat}
 use Rattle.capi.proofs.sheet.turgamysk_sheet_input_at.Statement.{statement}
 use Rattle.capi.proofs.sheet.turgamysk_sheet_input_at.Tie as tie
 
--- src/sheet.rt:164:21
 input-at-requires : tie.Need-input-at-requires
 input-at-requires c κs = search needs
 
--- src/sheet.rt:164:5
 outpoint-answer-requires : tie.Need-outpoint-answer-requires
 outpoint-answer-requires c κs = search needs
 
--- src/sheet.rt:160:1
 returns : tie.Need-returns
 returns c = c .outpoint-answer .ensures ∙ ap outpointFlat (c .before .input-at .ensures)
 

@@ -4,15 +4,12 @@ use Rattle.capi.specs.Sheet.{outputFlat}
 use Rattle.capi.proofs.sheet.turgamysk_sheet_place_at.Statement.{statement}
 use Rattle.capi.proofs.sheet.turgamysk_sheet_place_at.Tie as tie
 
--- src/sheet.rt:171:19
 place-at-requires : tie.Need-place-at-requires
 place-at-requires c κs = search needs
 
--- src/sheet.rt:171:5
 output-answer-requires : tie.Need-output-answer-requires
 output-answer-requires c κs = search needs
 
--- src/sheet.rt:167:1
 returns : tie.Need-returns
 returns c = c .output-answer .ensures ∙ ap outputFlat (c .before .place-at .ensures)
 

@@ -9,15 +9,12 @@ use Rattle.capi.proofs.sheet.turgamysk_view_item.Lts as lts
 use Rattle.capi.proofs.sheet.view_answer.Reads as view-answer-reads
 use Rattle.sheets.proofs.viewer.find_view.Reads as find-view-reads
 
--- src/sheet.rt:109:17
 find-view-requires : tie.Need-find-view-requires
 find-view-requires c κs = search needs
 
--- src/sheet.rt:109:5
 view-answer-requires : tie.Need-view-answer-requires
 view-answer-requires c κs = search needs
 
--- src/sheet.rt:99:1
 returns : tie.Need-returns
 returns c = c .view-answer .ensures ∙ ap viewFlat (c .before .find-view .ensures)
 

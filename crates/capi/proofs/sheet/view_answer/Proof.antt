@@ -8,27 +8,21 @@ use Rattle.capi.proofs.sheet.view_answer.Tie as tie
 use Rattle.capi.proofs.sheet.view_answer.Reads as reads
 use Rattle.capi.proofs.sheet.view_answer.Lts as lts
 
--- src/sheet.rt:67:29
 enum-known-view : tie.Need-enum-known-view
 enum-known-view c = search needs
 
--- src/sheet.rt:72:23
 enum-known-view-2 : tie.Need-enum-known-view-2
 enum-known-view-2 c = search needs
 
--- src/sheet.rt:77:26
 enum-told : tie.Need-enum-told
 enum-told c = search needs
 
--- src/sheet.rt:63:1
 returns : tie.Need-returns
 returns c = ap (λ r. viewFlat (viewPaper r)) (sym (c .before .view .given .1))
 
--- src/sheet.rt:63:1
 returns-2 : tie.Need-returns-2
 returns-2 c = ap (λ r. viewFlat (viewPaper r)) (sym (c .before .view2 .given .1))
 
--- src/sheet.rt:63:1
 returns-3 : tie.Need-returns-3
 returns-3 c = ap (λ r. viewFlat (viewPaper r)) (sym (c .enum-told .given .1))
 

@@ -8,31 +8,24 @@ use Rattle.capi.proofs.states.turgamysk_name_state_class.Reads as reads
 use Rattle.capi.proofs.states.turgamysk_name_state_class.Lts as lts
 use Rattle.name_state.proofs.NameState.class.Reads as class-reads
 
--- src/states.rt:136:11
 class-requires : tie.Need-class-requires
 class-requires c κs = search needs
 
--- src/states.rt:137:24
 enum-told : tie.Need-enum-told
 enum-told c = search needs
 
--- src/states.rt:138:24
 enum-told-2 : tie.Need-enum-told-2
 enum-told-2 c = search needs
 
--- src/states.rt:139:24
 enum-told-3 : tie.Need-enum-told-3
 enum-told-3 c = search needs
 
--- src/states.rt:132:1
 returns : tie.Need-returns
 returns c = ap classNumber (sym (c .enum-told .given .1) ∙ c .before .before .class .ensures)
 
--- src/states.rt:132:1
 returns-2 : tie.Need-returns-2
 returns-2 c = ap classNumber (sym (c .enum-told2 .given .1) ∙ c .before .before .class .ensures)
 
--- src/states.rt:132:1
 returns-3 : tie.Need-returns-3
 returns-3 c = ap classNumber (sym (c .enum-told3 .given .1) ∙ c .before .before .class .ensures)
 

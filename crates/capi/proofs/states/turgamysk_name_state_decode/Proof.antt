@@ -7,17 +7,14 @@ use Rattle.capi.proofs.states.turgamysk_name_state_decode.Tie as tie
 use Rattle.capi.proofs.states.turgamysk_name_state_decode.Reads as reads
 use Rattle.capi.proofs.states.turgamysk_name_state_decode.Lts as lts
 use Rattle.capi.proofs.states.state_answer.Reads as state-answer-reads
-use Rattle.name_states.proofs.decode.decode.Reads as decode-reads
+use Rattle.name_state_codec.proofs.decode.decode.Reads as decode-reads
 
--- src/states.rt:114:18
 decode-requires : tie.Need-decode-requires
 decode-requires c κs = search needs
 
--- src/states.rt:114:5
 state-answer-requires : tie.Need-state-answer-requires
 state-answer-requires c κs = search needs
 
--- src/states.rt:109:1
 returns : tie.Need-returns
 returns c = c .state-answer .ensures ∙ ap stateFlat (c .before .decode .ensures)
 

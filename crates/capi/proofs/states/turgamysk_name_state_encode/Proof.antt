@@ -7,21 +7,17 @@ use Rattle.capi.proofs.states.turgamysk_name_state_encode.Tie as tie
 use Rattle.capi.proofs.states.turgamysk_name_state_encode.Reads as reads
 use Rattle.capi.proofs.states.turgamysk_name_state_encode.Lts as lts
 use Rattle.capi.proofs.write_answer.Reads as write-answer-reads
-use Rattle.name_states.proofs.encode.encode.Reads as encode-reads
+use Rattle.name_state_codec.proofs.encode.encode.Reads as encode-reads
 
--- src/states.rt:122:18
 encode-requires : tie.Need-encode-requires
 encode-requires c κs = search needs
 
--- src/states.rt:122:5
 write-answer-requires : tie.Need-write-answer-requires
 write-answer-requires c κs = search needs
 
--- src/states.rt:117:1
 same-length : tie.Need-same-length
 same-length c = search needs
 
--- src/states.rt:117:1
 returns : tie.Need-returns
 returns c = (c .write-answer .ensures ∙ ap writeFlat (c .before .before .before .encode .ensures .0), c .before .before .before .encode .ensures .1)
 

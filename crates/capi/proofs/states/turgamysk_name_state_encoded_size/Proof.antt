@@ -7,17 +7,14 @@ use Rattle.capi.proofs.states.turgamysk_name_state_encoded_size.Tie as 
 use Rattle.capi.proofs.states.turgamysk_name_state_encoded_size.Reads as reads
 use Rattle.capi.proofs.states.turgamysk_name_state_encoded_size.Lts as lts
 use Rattle.capi.proofs.write_answer.Reads as write-answer-reads
-use Rattle.name_states.proofs.encode.encoded_size.Reads as encoded-size-reads
+use Rattle.name_state_codec.proofs.encode.encoded_size.Reads as encoded-size-reads
 
--- src/states.rt:129:18
 encoded-size-requires : tie.Need-encoded-size-requires
 encoded-size-requires c κs = search needs
 
--- src/states.rt:129:5
 write-answer-requires : tie.Need-write-answer-requires
 write-answer-requires c κs = search needs
 
--- src/states.rt:125:1
 returns : tie.Need-returns
 returns c = c .write-answer .ensures ∙ ap writeFlat (c .before .encoded-size .ensures)
 

@@ -4,11 +4,9 @@ use Rattle.capi.specs.States.{ownerFlat}
 use Rattle.capi.proofs.states.turgamysk_name_state_owner_outpoint.Statement.{statement}
 use Rattle.capi.proofs.states.turgamysk_name_state_owner_outpoint.Tie as tie
 
--- src/states.rt:156:9
 owner-outpoint-requires : tie.Need-owner-outpoint-requires
 owner-outpoint-requires c κs = search needs
 
--- src/states.rt:152:1
 returns : tie.Need-returns
 returns c = ap ownerFlat (c .before .owner-outpoint .ensures)
 

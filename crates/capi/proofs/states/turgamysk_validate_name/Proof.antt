@@ -7,15 +7,12 @@ use Rattle.capi.proofs.states.turgamysk_validate_name.Reads as reads
 use Rattle.capi.proofs.states.turgamysk_validate_name.Lts as lts
 use Rattle.names.proofs.validate_name.Reads as validate-name-reads
 
--- src/states.rt:38:8
 validate-name-requires : tie.Need-validate-name-requires
 validate-name-requires c κs = search needs
 
--- src/states.rt:39:9
 returns : tie.Need-returns
 returns c = rw (← c .before .validate-name .ensures, c .if1 .taken)
 
--- src/states.rt:34:1
 returns-2 : tie.Need-returns-2
 returns-2 c = rw (← c .before .validate-name .ensures, c .if1 .left)
 

@@ -10,27 +10,21 @@ use Rattle.capi.proofs.wire.moved_answer.Lts as lts
 use Rattle.refusal.proofs.carried_by.Reads as carried-by-reads
 use Rattle.refusal.proofs.number.Reads as number-reads
 
--- src/wire.rt:142:19
 enum-known-moved : tie.Need-enum-known-moved
 enum-known-moved c = search needs
 
--- src/wire.rt:149:24
 enum-known-moved-2 : tie.Need-enum-known-moved-2
 enum-known-moved-2 c = search needs
 
--- src/wire.rt:151:17
 carried-by-requires : tie.Need-carried-by-requires
 carried-by-requires c κs = search needs
 
--- src/wire.rt:153:25
 number-requires : tie.Need-number-requires
 number-requires c κs = search needs
 
--- src/wire.rt:138:1
 returns : tie.Need-returns
 returns c = ap (λ r. movedFlat (movedPaper r)) (sym (c .before .moved .given .1))
 
--- src/wire.rt:138:1
 returns-2 : tie.Need-returns-2
 returns-2 c = rw (c .before .before .before .moved2 .given .1, c .number .ensures, c .before .carried-by .ensures)
 

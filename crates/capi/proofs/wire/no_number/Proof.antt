@@ -8,15 +8,12 @@ use Rattle.capi.proofs.wire.no_number.Lts as lts
 use Rattle.refusal.proofs.carried_by.Reads as carried-by-reads
 use Rattle.refusal.proofs.number.Reads as number-reads
 
--- src/wire.rt:98:9
 carried-by-requires : tie.Need-carried-by-requires
 carried-by-requires c κs = search needs
 
--- src/wire.rt:100:17
 number-requires : tie.Need-number-requires
 number-requires c κs = search needs
 
--- src/wire.rt:94:1
 returns : tie.Need-returns
 returns c = rw (c .number .ensures, c .before .carried-by .ensures)
 

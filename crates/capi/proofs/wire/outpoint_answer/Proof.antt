@@ -8,27 +8,21 @@ use Rattle.capi.proofs.wire.outpoint_answer.Lts as lts
 use Rattle.refusal.proofs.carried_by.Reads as carried-by-reads
 use Rattle.refusal.proofs.number.Reads as number-reads
 
--- src/wire.rt:169:19
 enum-known-moved : tie.Need-enum-known-moved
 enum-known-moved c = search needs
 
--- src/wire.rt:177:24
 enum-known-moved-2 : tie.Need-enum-known-moved-2
 enum-known-moved-2 c = search needs
 
--- src/wire.rt:179:17
 carried-by-requires : tie.Need-carried-by-requires
 carried-by-requires c κs = search needs
 
--- src/wire.rt:181:25
 number-requires : tie.Need-number-requires
 number-requires c κs = search needs
 
--- src/wire.rt:163:1
 returns : tie.Need-returns
 returns c = rw (c .before .moved .given .1)
 
--- src/wire.rt:163:1
 returns-2 : tie.Need-returns-2
 returns-2 c = rw (c .before .before .before .moved2 .given .1, c .number .ensures, c .before .carried-by .ensures)
 

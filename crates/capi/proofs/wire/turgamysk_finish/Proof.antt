@@ -9,15 +9,12 @@ use Rattle.capi.proofs.wire.turgamysk_finish.Lts as lts
 use Rattle.capi.proofs.wire.moved_answer.Reads as moved-answer-reads
 use Rattle.encoding.proofs.read.Cursor.finish.Reads as finish-reads
 
--- src/wire.rt:331:18
 finish-requires : tie.Need-finish-requires
 finish-requires c κs = search needs
 
--- src/wire.rt:331:5
 moved-answer-requires : tie.Need-moved-answer-requires
 moved-answer-requires c κs = search needs
 
--- src/wire.rt:326:1
 returns : tie.Need-returns
 returns c = c .moved-answer .ensures ∙ ap movedFlat (c .before .finish .ensures)
 

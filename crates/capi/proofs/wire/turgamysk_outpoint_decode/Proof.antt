@@ -9,15 +9,12 @@ use Rattle.capi.proofs.wire.turgamysk_outpoint_decode.Lts as lts
 use Rattle.capi.proofs.wire.outpoint_answer.Reads as outpoint-answer-reads
 use Rattle.primitives.proofs.Outpoint.decode.Reads as decode-reads
 
--- src/wire.rt:410:21
 decode-requires : tie.Need-decode-requires
 decode-requires c κs = search needs
 
--- src/wire.rt:410:5
 outpoint-answer-requires : tie.Need-outpoint-answer-requires
 outpoint-answer-requires c κs = search needs
 
--- src/wire.rt:405:1
 returns : tie.Need-returns
 returns c = c .outpoint-answer .ensures ∙ ap outpointFlat (c .before .decode .ensures)
 

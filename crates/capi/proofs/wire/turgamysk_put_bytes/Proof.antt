@@ -9,19 +9,15 @@ use Rattle.capi.proofs.wire.turgamysk_put_bytes.Lts as lts
 use Rattle.capi.proofs.write_answer.Reads as write-answer-reads
 use Rattle.encoding.proofs.put.put_bytes.Reads as put-bytes-reads
 
--- src/wire.rt:373:18
 put-bytes-requires : tie.Need-put-bytes-requires
 put-bytes-requires c κs = search needs
 
--- src/wire.rt:373:5
 write-answer-requires : tie.Need-write-answer-requires
 write-answer-requires c κs = search needs
 
--- src/wire.rt:368:1
 same-length : tie.Need-same-length
 same-length c = search needs
 
--- src/wire.rt:368:1
 returns : tie.Need-returns
 returns c = (c .write-answer .ensures ∙ ap writeFlat (c .before .before .before .put-bytes .ensures .0), c .before .before .before .put-bytes .ensures .1)
 

@@ -9,19 +9,15 @@ use Rattle.capi.proofs.wire.turgamysk_put_compact_size.Lts as lts
 use Rattle.capi.proofs.write_answer.Reads as write-answer-reads
 use Rattle.encoding.proofs.put.put_compact_size.Reads as put-compact-size-reads
 
--- src/wire.rt:385:18
 put-compact-size-requires : tie.Need-put-compact-size-requires
 put-compact-size-requires c κs = search needs
 
--- src/wire.rt:385:5
 write-answer-requires : tie.Need-write-answer-requires
 write-answer-requires c κs = search needs
 
--- src/wire.rt:376:1
 same-length : tie.Need-same-length
 same-length c = search needs
 
--- src/wire.rt:376:1
 returns : tie.Need-returns
 returns c = (c .write-answer .ensures ∙ ap writeFlat (c .before .before .before .put-compact-size .ensures .0), c .before .before .before .put-compact-size .ensures .1)
 

@@ -9,19 +9,15 @@ use Rattle.capi.proofs.wire.turgamysk_put_u16_le.Lts as lts
 use Rattle.capi.proofs.write_answer.Reads as write-answer-reads
 use Rattle.encoding.proofs.put.put_u16_le.Reads as put-u16-le-reads
 
--- src/wire.rt:349:18
 put-u16-le-requires : tie.Need-put-u16-le-requires
 put-u16-le-requires c κs = search needs
 
--- src/wire.rt:349:5
 write-answer-requires : tie.Need-write-answer-requires
 write-answer-requires c κs = search needs
 
--- src/wire.rt:344:1
 same-length : tie.Need-same-length
 same-length c = search needs
 
--- src/wire.rt:344:1
 returns : tie.Need-returns
 returns c = (c .write-answer .ensures ∙ ap writeFlat (c .before .before .before .put-u16-le .ensures .0), c .before .before .before .put-u16-le .ensures .1)
 

@@ -9,19 +9,15 @@ use Rattle.capi.proofs.wire.turgamysk_put_u32_le.Lts as lts
 use Rattle.capi.proofs.write_answer.Reads as write-answer-reads
 use Rattle.encoding.proofs.put.put_u32_le.Reads as put-u32-le-reads
 
--- src/wire.rt:357:18
 put-u32-le-requires : tie.Need-put-u32-le-requires
 put-u32-le-requires c κs = search needs
 
--- src/wire.rt:357:5
 write-answer-requires : tie.Need-write-answer-requires
 write-answer-requires c κs = search needs
 
--- src/wire.rt:352:1
 same-length : tie.Need-same-length
 same-length c = search needs
 
--- src/wire.rt:352:1
 returns : tie.Need-returns
 returns c = (c .write-answer .ensures ∙ ap writeFlat (c .before .before .before .put-u32-le .ensures .0), c .before .before .before .put-u32-le .ensures .1)
 

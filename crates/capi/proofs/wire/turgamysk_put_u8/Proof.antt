@@ -9,19 +9,15 @@ use Rattle.capi.proofs.wire.turgamysk_put_u8.Lts as lts
 use Rattle.capi.proofs.write_answer.Reads as write-answer-reads
 use Rattle.encoding.proofs.put.put_u8.Reads as put-u8-reads
 
--- src/wire.rt:341:18
 put-u8-requires : tie.Need-put-u8-requires
 put-u8-requires c κs = search needs
 
--- src/wire.rt:341:5
 write-answer-requires : tie.Need-write-answer-requires
 write-answer-requires c κs = search needs
 
--- src/wire.rt:336:1
 same-length : tie.Need-same-length
 same-length c = search needs
 
--- src/wire.rt:336:1
 returns : tie.Need-returns
 returns c = (c .write-answer .ensures ∙ ap writeFlat (c .before .before .before .put-u8 .ensures .0), c .before .before .before .put-u8 .ensures .1)
 

@@ -9,19 +9,15 @@ use Rattle.capi.proofs.wire.turgamysk_put_varbytes.Lts as lts
 use Rattle.capi.proofs.write_answer.Reads as write-answer-reads
 use Rattle.encoding.proofs.put.put_varbytes.Reads as put-varbytes-reads
 
--- src/wire.rt:393:18
 put-varbytes-requires : tie.Need-put-varbytes-requires
 put-varbytes-requires c κs = search needs
 
--- src/wire.rt:393:5
 write-answer-requires : tie.Need-write-answer-requires
 write-answer-requires c κs = search needs
 
--- src/wire.rt:388:1
 same-length : tie.Need-same-length
 same-length c = search needs
 
--- src/wire.rt:388:1
 returns : tie.Need-returns
 returns c = (c .write-answer .ensures ∙ ap writeFlat (c .before .before .before .put-varbytes .ensures .0), c .before .before .before .put-varbytes .ensures .1)
 

@@ -12,15 +12,12 @@ use Rattle.capi.proofs.wire.turgamysk_read_array.Lts as lts
 use Rattle.capi.proofs.wire.moved_answer.Reads as moved-answer-reads
 use Rattle.encoding.proofs.read.Cursor.read_array.Reads as read-array-reads
 
--- src/wire.rt:319:9
 read-array-requires : tie.Need-read-array-requires
 read-array-requires c κs = search needs
 
--- src/wire.rt:323:5
 moved-answer-requires : tie.Need-moved-answer-requires
 moved-answer-requires c κs = search needs
 
--- src/wire.rt:309:1
 returns : tie.Need-returns
 returns c = (c .moved-answer .ensures ∙ ap (λ (t : Outcome Unit × List ℕ). movedFlat (t .0)) (c .before .before .read-array .ensures), ap (λ (t : Outcome Unit × List ℕ). t .1) (c .before .before .read-array .ensures))
 

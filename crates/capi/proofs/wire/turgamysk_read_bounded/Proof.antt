@@ -9,15 +9,12 @@ use Rattle.capi.proofs.wire.turgamysk_read_bounded.Lts as lts
 use Rattle.capi.proofs.wire.span_answer.Reads as span-answer-reads
 use Rattle.encoding.proofs.read.Cursor.read_bounded.Reads as read-bounded-reads
 
--- src/wire.rt:294:17
 read-bounded-requires : tie.Need-read-bounded-requires
 read-bounded-requires c κs = search needs
 
--- src/wire.rt:294:5
 span-answer-requires : tie.Need-span-answer-requires
 span-answer-requires c κs = search needs
 
--- src/wire.rt:284:1
 returns : tie.Need-returns
 returns c = c .span-answer .ensures ∙ ap spanFlat (c .before .read-bounded .ensures)
 

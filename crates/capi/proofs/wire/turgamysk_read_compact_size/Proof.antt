@@ -9,31 +9,24 @@ use Rattle.capi.proofs.wire.a_number.Reads as a-number-reads
 use Rattle.capi.proofs.wire.no_number.Reads as no-number-reads
 use Rattle.encoding.proofs.read.Cursor.read_compact_size.Reads as read-compact-size-reads
 
--- src/wire.rt:251:11
 read-compact-size-requires : tie.Need-read-compact-size-requires
 read-compact-size-requires c κs = search needs
 
--- src/wire.rt:252:24
 enum-known-v : tie.Need-enum-known-v
 enum-known-v c = search needs
 
--- src/wire.rt:252:36
 a-number-requires : tie.Need-a-number-requires
 a-number-requires c κs = search needs
 
--- src/wire.rt:253:26
 enum-known-stop : tie.Need-enum-known-stop
 enum-known-stop c = search needs
 
--- src/wire.rt:253:35
 no-number-requires : tie.Need-no-number-requires
 no-number-requires c κs = search needs
 
--- src/wire.rt:246:1
 returns : tie.Need-returns
 returns c = rw (← c .before .before .before .before .read-compact-size .ensures, c .before .before .v .given .1) (c .a-number .ensures)
 
--- src/wire.rt:246:1
 returns-2 : tie.Need-returns-2
 returns-2 c = rw (← c .before .before .before .before .read-compact-size .ensures, c .before .before .stop .given .1) (c .no-number .ensures)
 

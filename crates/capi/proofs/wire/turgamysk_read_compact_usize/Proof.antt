@@ -9,31 +9,24 @@ use Rattle.capi.proofs.wire.a_number.Reads as a-number-reads
 use Rattle.capi.proofs.wire.no_number.Reads as no-number-reads
 use Rattle.encoding.proofs.read.Cursor.read_compact_usize.Reads as read-compact-usize-reads
 
--- src/wire.rt:266:11
 read-compact-usize-requires : tie.Need-read-compact-usize-requires
 read-compact-usize-requires c κs = search needs
 
--- src/wire.rt:267:25
 enum-known-v : tie.Need-enum-known-v
 enum-known-v c = search needs
 
--- src/wire.rt:267:37
 a-number-requires : tie.Need-a-number-requires
 a-number-requires c κs = search needs
 
--- src/wire.rt:268:27
 enum-known-stop : tie.Need-enum-known-stop
 enum-known-stop c = search needs
 
--- src/wire.rt:268:36
 no-number-requires : tie.Need-no-number-requires
 no-number-requires c κs = search needs
 
--- src/wire.rt:257:1
 returns : tie.Need-returns
 returns c = rw (← c .before .before .before .before .read-compact-usize .ensures, c .before .before .v .given .1) (c .a-number .ensures)
 
--- src/wire.rt:257:1
 returns-2 : tie.Need-returns-2
 returns-2 c = rw (← c .before .before .before .before .read-compact-usize .ensures, c .before .before .stop .given .1) (c .no-number .ensures)
 

@@ -9,15 +9,12 @@ use Rattle.capi.proofs.wire.turgamysk_read_slice.Lts as lts
 use Rattle.capi.proofs.wire.span_answer.Reads as span-answer-reads
 use Rattle.encoding.proofs.read.Cursor.read_slice.Reads as read-slice-reads
 
--- src/wire.rt:281:17
 read-slice-requires : tie.Need-read-slice-requires
 read-slice-requires c κs = search needs
 
--- src/wire.rt:281:5
 span-answer-requires : tie.Need-span-answer-requires
 span-answer-requires c κs = search needs
 
--- src/wire.rt:272:1
 returns : tie.Need-returns
 returns c = c .span-answer .ensures ∙ ap spanFlat (c .before .read-slice .ensures)
 

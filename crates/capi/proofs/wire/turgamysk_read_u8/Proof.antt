@@ -9,35 +9,27 @@ use Rattle.capi.proofs.wire.a_number.Reads as a-number-reads
 use Rattle.capi.proofs.wire.no_number.Reads as no-number-reads
 use Rattle.encoding.proofs.read.Cursor.read_u8.Reads as read-u8-reads
 
--- src/wire.rt:207:11
 read-u8-requires : tie.Need-read-u8-requires
 read-u8-requires c κs = search needs
 
--- src/wire.rt:208:23
 enum-known-v : tie.Need-enum-known-v
 enum-known-v c = search needs
 
--- src/wire.rt:208:44
 cast-a-number : tie.Need-cast-a-number
 cast-a-number c = search needs
 
--- src/wire.rt:208:35
 a-number-requires : tie.Need-a-number-requires
 a-number-requires c κs = search needs
 
--- src/wire.rt:209:25
 enum-known-stop : tie.Need-enum-known-stop
 enum-known-stop c = search needs
 
--- src/wire.rt:209:34
 no-number-requires : tie.Need-no-number-requires
 no-number-requires c κs = search needs
 
--- src/wire.rt:202:1
 returns : tie.Need-returns
 returns c = rw (← c .before .before .before .before .read-u8 .ensures, c .before .before .v .given .1) (c .a-number .ensures)
 
--- src/wire.rt:202:1
 returns-2 : tie.Need-returns-2
 returns-2 c = rw (← c .before .before .before .before .read-u8 .ensures, c .before .before .stop .given .1) (c .no-number .ensures)
 

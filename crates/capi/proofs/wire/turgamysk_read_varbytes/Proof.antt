@@ -9,15 +9,12 @@ use Rattle.capi.proofs.wire.turgamysk_read_varbytes.Lts as lts
 use Rattle.capi.proofs.wire.span_answer.Reads as span-answer-reads
 use Rattle.encoding.proofs.read.Cursor.read_varbytes.Reads as read-varbytes-reads
 
--- src/wire.rt:306:17
 read-varbytes-requires : tie.Need-read-varbytes-requires
 read-varbytes-requires c κs = search needs
 
--- src/wire.rt:306:5
 span-answer-requires : tie.Need-span-answer-requires
 span-answer-requires c κs = search needs
 
--- src/wire.rt:297:1
 returns : tie.Need-returns
 returns c = c .span-answer .ensures ∙ ap spanFlat (c .before .read-varbytes .ensures)
 

@@ -2,15 +2,12 @@ use borrow.Author.Needs.{needs}
 use Rattle.covenants.proofs.Covenant.decode.Statement.{statement}
 use Rattle.covenants.proofs.Covenant.decode.Tie as tie
 
--- src/decode.rt:207:13
 decode-into-requires : tie.Need-decode-into-requires
 decode-into-requires c κs = search needs
 
--- src/decode.rt:208:9
 assembled-requires : tie.Need-assembled-requires
 assembled-requires c κs = search needs
 
--- src/decode.rt:202:5
 returns : tie.Need-returns
 returns c = c .assembled .ensures _ (c .before .decode-into .ensures .0) (c .before .decode-into .ensures .1 .0) (c .before .decode-into .ensures .1 .1)
 

@@ -5,19 +5,15 @@ use Rattle.covenants.proofs.Directory.{accepted-shown, refused-shown}
 use Rattle.covenants.proofs.decode.assembled.Statement.{statement}
 use Rattle.covenants.proofs.decode.assembled.Tie as tie
 
--- src/decode.rt:121:13
 enum-known-read : tie.Need-enum-known-read
 enum-known-read c = search needs
 
--- src/decode.rt:136:23
 enum-told : tie.Need-enum-told
 enum-told c = search needs
 
--- src/decode.rt:116:1
 returns : tie.Need-returns
 returns c = λ o e f g. accepted-shown o (sym (ap covenantPaper (c .before .read .given .1)) ∙ e) f g
 
--- src/decode.rt:116:1
 returns-2 : tie.Need-returns-2
 returns-2 c = λ o e f g. refused-shown o (ap covenantPaper (c .enum-told .given .1)) e f g
 

@@ -3,7 +3,6 @@ use Rattle.words.specs.Buffers.{padded}
 use Rattle.covenants.proofs.decode.clear.Statement.{statement}
 use Rattle.covenants.proofs.decode.clear.Tie as tie
 
--- src/decode.rt:30:1
 returns : tie.Need-returns
 unfolding padded
 returns c = (refl, refl)

@@ -8,33 +8,26 @@ use Rattle.covenants.proofs.Moves.{head-read}
 use Rattle.covenants.proofs.items.find.Statement.{statement}
 use Rattle.covenants.proofs.items.find.Tie as tie
 
--- src/items.rt:235:11
 head-requires : tie.Need-head-requires
 head-requires c κs = search needs
 
--- src/items.rt:238:13
 enum-known-count : tie.Need-enum-known-count
 enum-known-count c = search needs
 
--- src/items.rt:242:17
 returns : tie.Need-returns
 unfolding seekAt
 returns c = rw (← c .before .before .before .before .head .ensures, c .before .before .count .given .1, le-ltb _ _ (c .if1 .taken))
 
--- src/items.rt:244:13
 scan-requires : tie.Need-scan-requires
 scan-requires c κs = let h = head-read 1000009 (c .before .before .before .before .before .before .args .s .now) (c .before .before .before .before .before .before .args .c .position) (omega arith) (told headPaper (c .before .before .before .before .head .ensures) (c .before .before .count .given .1)) in omega (arith, h .later)
 
--- src/items.rt:246:33
 enum-told : tie.Need-enum-told
 enum-told c = search needs
 
--- src/items.rt:232:1
 returns-2 : tie.Need-returns-2
 unfolding seekAt
 returns-2 c = rw (← c .before .before .before .before .before .head .ensures, c .before .before .before .count .given .1, lt-ltb _ _ (c .before .if1 .left)) (c .scan .ensures)
 
--- src/items.rt:232:1
 returns-3 : tie.Need-returns-3
 unfolding seekAt
 returns-3 c = rw (← c .before .before .head .ensures, c .enum-told .given .1)

@@ -4,42 +4,33 @@ use Rattle.covenants.specs.Items.{directoryItem}
 use Rattle.covenants.proofs.items.item.Statement.{statement}
 use Rattle.covenants.proofs.items.item.Tie as tie
 
--- src/items.rt:152:9
 returns : tie.Need-returns
 unfolding directoryItem
 returns c = rw (le-ltb _ _ (c .if1 .taken))
 
--- src/items.rt:155:9
 returns-2 : tie.Need-returns-2
 unfolding directoryItem
 returns-2 c = rw (lt-ltb _ _ (c .before .if1 .left), le-ltb _ _ (c .if2 .taken))
 
--- src/items.rt:157:17
 mul-start : tie.Need-mul-start
 mul-start c = search needs
 
--- src/items.rt:157:17
 element-copy-out-start : tie.Need-element-copy-out-start
 element-copy-out-start c = search needs
 
--- src/items.rt:158:15
 mul-len : tie.Need-mul-len
 mul-len c = search needs
 
--- src/items.rt:158:15
 element-copy-out-len : tie.Need-element-copy-out-len
 element-copy-out-len c = search needs
 
--- src/items.rt:159:8
 has-room-requires : tie.Need-has-room-requires
 has-room-requires c κs = search needs
 
--- src/items.rt:160:9
 returns-3 : tie.Need-returns-3
 unfolding directoryItem
 returns-3 c = rw (lt-ltb _ _ (c .before .before .before .before .before .if1 .left), lt-ltb _ _ (c .before .before .before .before .if2 .left), ← c .before .has-room .ensures, c .if3 .taken)
 
--- src/items.rt:142:1
 returns-4 : tie.Need-returns-4
 unfolding directoryItem
 returns-4 c = rw (lt-ltb _ _ (c .before .before .before .before .before .if1 .left), lt-ltb _ _ (c .before .before .before .before .if2 .left), ← c .before .has-room .ensures, c .if3 .left)

@@ -5,15 +5,12 @@ use Rattle.covenants.specs.Paper.{shownHash}
 use Rattle.covenants.proofs.items.item_name_hash.Statement.{statement}
 use Rattle.covenants.proofs.items.item_name_hash.Tie as tie
 
--- src/items.rt:210:5
 item-requires : tie.Need-item-requires
 item-requires c κs = search needs
 
--- src/items.rt:210:5
 as-name-hash-requires : tie.Need-as-name-hash-requires
 as-name-hash-requires c κs = search needs
 
--- src/items.rt:201:1
 returns : tie.Need-returns
 returns c = c .as-name-hash .ensures ∙ ap (λ i. shownHash (wide 32 (c .before .before .before .args .source .now) i)) (c .before .item .ensures)
 

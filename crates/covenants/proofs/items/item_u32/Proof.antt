@@ -4,15 +4,12 @@ use Rattle.covenants.specs.Items.{numberIn}
 use Rattle.covenants.proofs.items.item_u32.Statement.{statement}
 use Rattle.covenants.proofs.items.item_u32.Tie as tie
 
--- src/items.rt:186:5
 item-requires : tie.Need-item-requires
 item-requires c κs = search needs
 
--- src/items.rt:186:5
 as-u32-requires : tie.Need-as-u32-requires
 as-u32-requires c κs = search needs
 
--- src/items.rt:177:1
 returns : tie.Need-returns
 returns c = c .as-u32 .ensures ∙ ap (numberIn 4 (c .before .before .before .args .source .now)) (c .before .item .ensures)
 

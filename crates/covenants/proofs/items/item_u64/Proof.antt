@@ -4,15 +4,12 @@ use Rattle.covenants.specs.Items.{numberIn}
 use Rattle.covenants.proofs.items.item_u64.Statement.{statement}
 use Rattle.covenants.proofs.items.item_u64.Tie as tie
 
--- src/items.rt:198:5
 item-requires : tie.Need-item-requires
 item-requires c κs = search needs
 
--- src/items.rt:198:5
 as-u64-requires : tie.Need-as-u64-requires
 as-u64-requires c κs = search needs
 
--- src/items.rt:189:1
 returns : tie.Need-returns
 returns c = c .as-u64 .ensures ∙ ap (numberIn 8 (c .before .before .before .args .source .now)) (c .before .item .ensures)
 

@@ -4,15 +4,12 @@ use Rattle.covenants.specs.Items.{numberIn}
 use Rattle.covenants.proofs.items.item_u8.Statement.{statement}
 use Rattle.covenants.proofs.items.item_u8.Tie as tie
 
--- src/items.rt:174:5
 item-requires : tie.Need-item-requires
 item-requires c κs = search needs
 
--- src/items.rt:174:5
 as-u8-requires : tie.Need-as-u8-requires
 as-u8-requires c κs = search needs
 
--- src/items.rt:165:1
 returns : tie.Need-returns
 returns c = c .as-u8 .ensures ∙ ap (numberIn 1 (c .before .before .before .args .source .now)) (c .before .item .ensures)
 

@@ -6,39 +6,30 @@ use Rattle.covenants.proofs.Places.{scan-found, scan-stopped, scan-late
 use Rattle.covenants.proofs.items.scan.Statement.{statement}
 use Rattle.covenants.proofs.items.scan.Tie as tie
 
--- src/items.rt:218:11
 pass-items-requires : tie.Need-pass-items-requires
 pass-items-requires c κs = search needs
 
--- src/items.rt:219:19
 enum-known-next : tie.Need-enum-known-next
 enum-known-next c = search needs
 
--- src/items.rt:219:34
-item-requires : tie.Need-item-requires
-item-requires c κs = let h = scan-later _ _ _ _ (told movedPaper (c .before .before .before .pass-items .ensures) (c .before .next .given .1)) (omega arith) in omega arith
+read-item-requires : tie.Need-read-item-requires
+read-item-requires c κs = let h = scan-later _ _ _ _ (told movedPaper (c .before .before .before .pass-items .ensures) (c .before .next .given .1)) (omega arith) in omega arith
 
--- src/items.rt:221:24
 enum-known-at : tie.Need-enum-known-at
 enum-known-at c = search needs
 
--- src/items.rt:225:37
 enum-told : tie.Need-enum-told
 enum-told c = search needs
 
--- src/items.rt:227:30
 enum-told-2 : tie.Need-enum-told-2
 enum-told-2 c = search needs
 
--- src/items.rt:214:1
 returns : tie.Need-returns
-returns c = scan-found _ _ _ _ (told movedPaper (c .before .before .before .before .before .before .before .pass-items .ensures) (c .before .before .before .before .before .next .given .1)) (told spanPaper (c .before .before .before .item .ensures) (c .before .at .given .1))
+returns c = scan-found _ _ _ _ (told movedPaper (c .before .before .before .before .before .before .before .pass-items .ensures) (c .before .before .before .before .before .next .given .1)) (told spanPaper (c .before .before .before .read-item .ensures) (c .before .at .given .1))
 
--- src/items.rt:214:1
 returns-2 : tie.Need-returns-2
-returns-2 c = scan-found _ _ _ _ (told movedPaper (c .before .before .before .before .before .before .pass-items .ensures) (c .before .before .before .before .next .given .1)) (told spanPaper (c .before .before .item .ensures) (c .enum-told .given .1))
+returns-2 c = scan-found _ _ _ _ (told movedPaper (c .before .before .before .before .before .before .pass-items .ensures) (c .before .before .before .before .next .given .1)) (told spanPaper (c .before .before .read-item .ensures) (c .enum-told .given .1))
 
--- src/items.rt:214:1
 returns-3 : tie.Need-returns-3
 returns-3 c = scan-stopped _ _ _ _ (told movedPaper (c .before .before .pass-items .ensures) (c .enum-told2 .given .1))
 
@@ -48,7 +39,7 @@ scan-spec =
     (tie.spec
     pass-items-requires
     enum-known-next
-    item-requires
+    read-item-requires
     enum-known-at
     enum-told
     enum-told-2

@@ -5,15 +5,12 @@ use Rattle.covenants.proofs.items.size_at.Tie as tie
 use Rattle.covenants.proofs.items.size_at.Reads as reads
 use Rattle.covenants.proofs.items.size_at.Lts as lts
 
--- src/items.rt:328:5
 shared-slice-read-result : tie.Need-shared-slice-read-result
 shared-slice-read-result c = search needs
 
--- src/items.rt:328:5
 cast-result : tie.Need-cast-result
 cast-result c = omega (arith, c .shared-slice-known .given (c .before .args .at))
 
--- src/items.rt:324:1
 returns : tie.Need-returns
 returns c = search needs
 

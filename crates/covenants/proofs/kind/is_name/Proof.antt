@@ -2,11 +2,9 @@ use borrow.Author.Tests.{lt-leb, le-leb}
 use Rattle.covenants.proofs.kind.is_name.Statement.{statement}
 use Rattle.covenants.proofs.kind.is_name.Tie as tie
 
--- src/kind.rt:22:9
 returns : tie.Need-returns
 returns c = simp (lt-leb _ _ (c .if1 .taken))
 
--- src/kind.rt:18:1
 returns-2 : tie.Need-returns-2
 returns-2 c = simp (le-leb _ _ (c .if1 .left))
 

@@ -3,7 +3,7 @@ use native.Mathlib.Omega.{arith}
 use Prim.Native.Nat.{ℕ, _-_, _≤_}
 use borrow.Author.Tests.{not-false}
 use Rattle.covenants.specs.Covenant.{itemAt}
-use Rattle.covenants.specs.Filling.{Filling}
+use Rattle.covenants.specs.Workers.{Filling}
 use Rattle.covenants.proofs.Directory.{more}
 use Rattle.covenants.proofs.OneByte.{short-item}
 use Rattle.covenants.proofs.short.short_entries.Statement.{statement}

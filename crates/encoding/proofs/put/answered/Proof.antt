@@ -9,11 +9,9 @@ use Rattle.encoding.proofs.put.answered.Tie as tie
 use Rattle.encoding.proofs.put.answered.Reads as reads
 use Rattle.encoding.proofs.put.answered.Lts as lts
 
--- src/put.rt:22:1
 returns : tie.Need-returns
 returns c = rw (c .if1 .taken)
 
--- src/put.rt:22:1
 returns-2 : tie.Need-returns-2
 returns-2 c = rw (c .if1 .left)
 

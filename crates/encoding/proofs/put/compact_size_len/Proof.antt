@@ -8,22 +8,18 @@ use Rattle.encoding.proofs.put.compact_size_len.Tie as tie
 use Rattle.encoding.proofs.put.compact_size_len.Reads as reads
 use Rattle.encoding.proofs.put.compact_size_len.Lts as lts
 
--- src/put.rt:67:9
 returns : tie.Need-returns
 unfolding compactSize
 returns c = simp (lt-ltb _ _ (c .if1 .taken))
 
--- src/put.rt:70:9
 returns-2 : tie.Need-returns-2
 unfolding compactSize
 returns-2 c = simp (le-ltb _ _ (c .before .if1 .left), lt-ltb _ _ (c .if2 .taken))
 
--- src/put.rt:73:9
 returns-3 : tie.Need-returns-3
 unfolding compactSize
 returns-3 c = simp (le-ltb _ _ (c .before .before .if1 .left), le-ltb _ _ (c .before .if2 .left), lt-ltb _ _ (c .if3 .taken))
 
--- src/put.rt:63:1
 returns-4 : tie.Need-returns-4
 unfolding compactSize
 returns-4 c = simp (le-ltb _ _ (c .before .before .if1 .left), le-ltb _ _ (c .before .if2 .left), le-ltb _ _ (c .if3 .left))

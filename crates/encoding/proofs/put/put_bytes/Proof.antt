@@ -9,19 +9,15 @@ use Rattle.encoding.proofs.put.put_bytes.Lts as lts
 use Rattle.encoding.proofs.put.answered.Reads as answered-reads
 use Rattle.words.proofs.store.put_bytes.Reads as put-bytes-reads
 
--- src/put.rt:59:14
 put-bytes-requires : tie.Need-put-bytes-requires
 put-bytes-requires c κs = search needs
 
--- src/put.rt:59:5
 answered-requires : tie.Need-answered-requires
 answered-requires c κs = search needs
 
--- src/put.rt:56:1
 same-length : tie.Need-same-length
 same-length c = search needs
 
--- src/put.rt:56:1
 returns : tie.Need-returns
 returns c = (put-said _ _ _ _ refl (c .before .before .before .put-bytes .ensures .0) (c .answered .ensures), c .before .before .before .put-bytes .ensures .1)
 

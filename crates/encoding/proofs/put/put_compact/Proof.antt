@@ -14,51 +14,39 @@ use Rattle.encoding.proofs.put.put_compact.Lts as lts
 use Rattle.encoding.proofs.put.put_tagged.Reads as put-tagged-reads
 use Rattle.words.proofs.store.put_le.Reads as put-le-reads
 
--- src/put.rt:93:9
 put-le-requires : tie.Need-put-le-requires
 put-le-requires c κs = search needs
 
--- src/put.rt:94:9
 same-length : tie.Need-same-length
 same-length c = search needs
 
--- src/put.rt:94:9
 returns : tie.Need-returns
 returns c = let f = form1 (c .before .before .before .before .before .before .args .value) (omega arith) in rw (f .0) (c .before .before .put-le .ensures .1 ∙ laid-over _ _ _ 1 (length-bytes 1 (c .before .before .before .before .before .before .args .value)) (omega (arith, f .1, c .before .before .before .before .before .before .pre)))
 
--- src/put.rt:97:9
 put-tagged-requires : tie.Need-put-tagged-requires
 put-tagged-requires c κs = omega (arith, form3 (c .before .before .before .before .args .value) (omega arith) (omega arith) .1)
 
--- src/put.rt:98:9
 same-length-2 : tie.Need-same-length-2
 same-length-2 c = search needs
 
--- src/put.rt:98:9
 returns-2 : tie.Need-returns-2
 returns-2 c = rw (form3 (c .before .before .before .before .before .before .before .args .value) (omega arith) (omega arith) .0) (c .before .before .put-tagged .ensures)
 
--- src/put.rt:101:9
 put-tagged-requires-2 : tie.Need-put-tagged-requires-2
 put-tagged-requires-2 c κs = omega (arith, form5 (c .before .before .before .before .before .args .value) (omega arith) (omega arith) .1)
 
--- src/put.rt:102:9
 same-length-3 : tie.Need-same-length-3
 same-length-3 c = search needs
 
--- src/put.rt:102:9
 returns-3 : tie.Need-returns-3
 returns-3 c = rw (form5 (c .before .before .before .before .before .before .before .before .args .value) (omega arith) (omega arith) .0) (c .before .before .put-tagged2 .ensures)
 
--- src/put.rt:104:5
 put-tagged-requires-3 : tie.Need-put-tagged-requires-3
 put-tagged-requires-3 c κs = omega (arith, form9 (c .before .before .before .before .before .args .value) (omega arith) .1)
 
--- src/put.rt:88:1
 same-length-4 : tie.Need-same-length-4
 same-length-4 c = search needs
 
--- src/put.rt:88:1
 returns-4 : tie.Need-returns-4
 returns-4 c = rw (form9 (c .before .before .before .before .before .before .before .before .args .value) (omega arith) .0) (c .before .before .put-tagged3 .ensures)
 

@@ -13,29 +13,23 @@ use Rattle.encoding.proofs.put.compact_size_len.Reads as compact-size-l
 use Rattle.encoding.proofs.put.put_compact.Reads as put-compact-reads
 use Rattle.words.proofs.store.has_room.Reads as has-room-reads
 
--- src/put.rt:110:9
 compact-size-len-requires : tie.Need-compact-size-len-requires
 compact-size-len-requires c κs = search needs
 
--- src/put.rt:111:8
 has-room-requires : tie.Need-has-room-requires
 has-room-requires c κs = search needs
 
--- src/put.rt:112:9
 put-compact-requires : tie.Need-put-compact-requires
 put-compact-requires c κs =
     let h : c .before .before .before .before .before .args .at + c .before .before .before .compact-size-len .result ≤ length (c .before .before .before .before .before .args .d .now) = leb-true _ _ (sym (c .before .before .has-room .ensures) ∙ c .before .if1 .taken) in
     omega (arith, c .before .before .before .compact-size-len .ensures)
 
--- src/put.rt:113:9
 same-length : tie.Need-same-length
 same-length c = search needs
 
--- src/put.rt:113:9
 returns : tie.Need-returns
 returns c = put-room _ _ _ _ (length-compact _ ∙ sym (c .before .before .before .before .before .before .compact-size-len .ensures)) (leb-true _ _ (sym (c .before .before .before .before .before .has-room .ensures) ∙ c .before .before .before .before .if1 .taken)) (c .before .before .put-compact .ensures)
 
--- src/put.rt:107:1
 returns-2 : tie.Need-returns-2
 returns-2 c = put-none _ _ _ _ (length-compact _ ∙ sym (c .before .before .compact-size-len .ensures)) (leb-false _ _ (sym (c .before .has-room .ensures) ∙ c .if1 .left))
 

@@ -12,23 +12,18 @@ use Rattle.encoding.proofs.put.put_tagged.Reads as reads
 use Rattle.encoding.proofs.put.put_tagged.Lts as lts
 use Rattle.words.proofs.store.put_le.Reads as put-le-reads
 
--- src/put.rt:83:5
 slice-write-d : tie.Need-slice-write-d
 slice-write-d c = search needs
 
--- src/put.rt:84:15
 add-put-le : tie.Need-add-put-le
 add-put-le c = search needs
 
--- src/put.rt:84:5
 put-le-requires : tie.Need-put-le-requires
 put-le-requires c κs = search needs
 
--- src/put.rt:79:1
 same-length : tie.Need-same-length
 same-length c = c .before .before .put-le .kept .0 ∙ simp length-set
 
--- src/put.rt:79:1
 returns : tie.Need-returns
 returns c =
     let a = c .before .before .before .before .before .args in

@@ -10,19 +10,15 @@ use Rattle.encoding.proofs.put.put_u32_le.Lts as lts
 use Rattle.encoding.proofs.put.answered.Reads as answered-reads
 use Rattle.words.proofs.store.put_le.Reads as put-le-reads
 
--- src/put.rt:47:14
 put-le-requires : tie.Need-put-le-requires
 put-le-requires c κs = search needs
 
--- src/put.rt:47:5
 answered-requires : tie.Need-answered-requires
 answered-requires c κs = search needs
 
--- src/put.rt:44:1
 same-length : tie.Need-same-length
 same-length c = search needs
 
--- src/put.rt:44:1
 returns : tie.Need-returns
 returns c = (put-said _ _ _ _ (length-bytes _ _) (c .before .before .before .put-le .ensures .0) (c .answered .ensures), c .before .before .before .put-le .ensures .1)
 

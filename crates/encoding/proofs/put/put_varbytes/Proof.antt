@@ -14,45 +14,36 @@ use Rattle.encoding.proofs.put.put_compact.Reads as put-compact-reads
 use Rattle.words.proofs.store.has_room.Reads as has-room-reads
 use Rattle.words.proofs.store.put_bytes.Reads as put-bytes-reads
 
--- src/put.rt:122:9
 compact-size-len-requires : tie.Need-compact-size-len-requires
 compact-size-len-requires c κs = search needs
 
--- src/put.rt:123:13
 add-n : tie.Need-add-n
 add-n c = omega (arith, c .compact-size-len .ensures, compact-size-most (length (c .before .before .before .args .value .now)))
 
--- src/put.rt:124:8
 has-room-requires : tie.Need-has-room-requires
 has-room-requires c κs = search needs
 
--- src/put.rt:125:9
 put-compact-requires : tie.Need-put-compact-requires
 put-compact-requires c κs =
     let h : c .before .before .before .before .before .before .args .at + (c .before .before .before .compact-size-len .result + length (c .before .before .before .before .before .before .args .value .now)) ≤ length (c .before .before .before .before .before .before .args .d .now) = leb-true _ _ (sym (c .before .before .has-room .ensures) ∙ c .before .if1 .taken) in
     omega (arith, c .before .before .before .compact-size-len .ensures)
 
--- src/put.rt:126:36
 add-put-bytes : tie.Need-add-put-bytes
 add-put-bytes c =
     let h : c .before .before .before .before .before .before .before .before .before .before .args .at + (c .before .before .before .before .before .before .before .compact-size-len .result + length (c .before .before .before .before .before .before .before .before .before .before .args .value .now)) ≤ length (c .before .before .before .before .before .before .before .before .before .before .args .d .now) = leb-true _ _ (sym (c .before .before .before .before .before .before .has-room .ensures) ∙ c .before .before .before .before .before .if1 .taken) in
     omega arith
 
--- src/put.rt:126:9
 put-bytes-requires : tie.Need-put-bytes-requires
 put-bytes-requires c κs = search needs
 
--- src/put.rt:127:9
 same-length : tie.Need-same-length
 same-length c = search needs
 
--- src/put.rt:127:9
 returns : tie.Need-returns
 returns c =
     let h = leb-true _ _ (sym (c .before .before .before .before .before .before .before .before .before .has-room .ensures) ∙ c .before .before .before .before .before .before .before .before .if1 .taken) in
     put-room _ _ _ _ (length-varbytes _ (ap (λ (k : ℕ). k + length (c .before .before .before .before .before .before .before .before .before .before .before .before .before .args .value .now)) (c .before .before .before .before .before .before .before .before .before .before .compact-size-len .ensures))) h (varbytes-over _ _ _ _ (c .before .before .before .before .before .before .before .before .before .before .compact-size-len .ensures) h (c .before .before .before .before .before .before .put-compact .ensures) (c .before .before .put-bytes .ensures .1))
 
--- src/put.rt:119:1
 returns-2 : tie.Need-returns-2
 returns-2 c = put-none _ _ _ _ (length-varbytes _ (ap (λ (k : ℕ). k + length (c .before .before .before .before .before .args .value .now)) (c .before .before .compact-size-len .ensures))) (leb-false _ _ (sym (c .before .has-room .ensures) ∙ c .if1 .left))
 

@@ -17,7 +17,6 @@ Inv-loop s at n v₀ i₀ v i = (i ≤ n) × (v ≡ le (take (n - i) (drop (at +
 abbrev μ-loop : tie.MeasureT-loop
 μ-loop s at n v₀ i₀ v i = i
 
--- src/read.rt:93:5
 loop-holds : tie.Need-loop-holds Inv-loop μ-loop
 unfolding le
 loop-holds c =
@@ -25,11 +24,9 @@ loop-holds c =
     let z : n - n ≡ 0 = omega arith in
     (omega arith, rw z)
 
--- src/read.rt:94:9
 sub-i : tie.Need-sub-i Inv-loop μ-loop
 sub-i c = search needs
 
--- src/read.rt:95:13
 mul-v : tie.Need-mul-v Inv-loop μ-loop
 mul-v c =
     let a = c .before .before .before .args in
@@ -37,19 +34,15 @@ mul-v c =
     omega
     (arith, l .inv .1, le-under (a .s .now) (a .at + l .i) (a .n - l .i) 7 (λ k. c .before .before .shared-slice-known .given k .fits) (omega arith))
 
--- src/read.rt:95:30
 add-wide : tie.Need-add-wide Inv-loop μ-loop
 add-wide c = search needs
 
--- src/read.rt:95:28
 shared-slice-read-wide : tie.Need-shared-slice-read-wide Inv-loop μ-loop
 shared-slice-read-wide c = search needs
 
--- src/read.rt:95:23
 wide-requires : tie.Need-wide-requires Inv-loop μ-loop
 wide-requires c κs = search needs
 
--- src/read.rt:95:13
 add-v : tie.Need-add-v Inv-loop μ-loop
 add-v c =
     let a = c .before .before .before .before .before .args in
@@ -58,18 +51,15 @@ add-v c =
     omega
     (arith, l .inv .1, c .wide .ensures, known (a .at + (l .i - 1)), le-under (a .s .now) (a .at + l .i) (a .n - l .i) 7 (λ k. known k .fits) (omega arith))
 
--- src/read.rt:93:5
 loop-less : tie.Need-loop-less Inv-loop μ-loop
 loop-less c = search needs
 
--- src/read.rt:93:5
 loop-again : tie.Need-loop-again Inv-loop μ-loop
 loop-again c =
     let a = c .before .before .before .before .before .args in
     let l = c .before .before .before .loop in
     (omega arith, cc (le-more (a .s .now) {at = a .at + (l .i - 1)} {at′ = a .at + l .i} {k = a .n - l .i} {k′ = a .n - (l .i - 1)} (omega arith) (omega arith) (omega arith)))
 
--- src/read.rt:87:1
 returns : tie.Need-returns Inv-loop μ-loop
 returns c =
     let a = c .before .before .before .args in

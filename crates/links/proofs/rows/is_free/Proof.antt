@@ -2,8 +2,6 @@ use borrow.Author.Tests.{eq-eqb, ne-eqb}
 use Rattle.links.proofs.Judging.{one-of-one}
 use Rattle.links.proofs.rows.is_free.Statement.{statement}
 use Rattle.links.proofs.rows.is_free.Tie as tie
-use Rattle.links.proofs.rows.is_free.Reads as reads
-use Rattle.links.proofs.rows.is_free.Lts as lts
 
 returns : tie.Need-returns
 returns c = rw (eq-eqb _ _ (c .if1 .taken))

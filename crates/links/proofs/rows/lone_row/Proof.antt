@@ -4,8 +4,6 @@ use mathlib.Core.Path.{_≡_, refl, ap, sym, _∙_}
 use Rattle.links.specs.Rules.{freeRule, unknownRule}
 use Rattle.links.proofs.rows.lone_row.Statement.{statement}
 use Rattle.links.proofs.rows.lone_row.Tie as tie
-use Rattle.links.proofs.rows.lone_row.Reads as reads
-use Rattle.links.proofs.rows.lone_row.Lts as lts
 
 enum-told : tie.Need-enum-told
 enum-told c = search needs

@@ -1,38 +1,30 @@
 use borrow.Author.Needs.{needs}
 use borrow.Author.Tests.{eq-eqb, ne-eqb}
 use Rattle.links.specs.Rules.{ownedRule}
+use Rattle.checks.proofs.Comparing.{names-pass}
 use Rattle.links.proofs.rows.owned_row.Statement.{statement}
 use Rattle.links.proofs.rows.owned_row.Tie as tie
-use Rattle.links.proofs.rows.owned_row.Reads as reads
-use Rattle.links.proofs.rows.owned_row.Lts as lts
-use Rattle.links.proofs.rows.invalid_transition.Reads as invalid-transition-reads
-use Rattle.links.proofs.rows.name_and_start.Reads as name-and-start-reads
-use Rattle.links.proofs.rows.same_address.Reads as same-address-reads
-use Rattle.links.proofs.rows.stays.Reads as stays-reads
 
 returns : tie.Need-returns
 unfolding ownedRule
 returns c = rw (ne-eqb _ _ (c .if1 .taken))
 
 same-address-requires : tie.Need-same-address-requires
-same-address-requires c κs = (c .before .before .before .before .before .pre .0 .0, c .before .before .before .before .before .pre .1 .0)
+same-address-requires c κs = search needs
 
 stays-requires : tie.Need-stays-requires
 stays-requires c κs = search needs
 
-name-and-start-requires : tie.Need-name-and-start-requires
-name-and-start-requires c κs = search needs
-
 returns-2 : tie.Need-returns-2
 unfolding ownedRule
-returns-2 c = rw (eq-eqb _ _ (c .before .before .before .before .before .if1 .left), ← c .before .before .before .before .same-address .ensures, c .before .before .before .if2 .taken, ← c .before .before .stays .ensures, c .before .if3 .taken) (c .name-and-start .ensures)
+returns-2 c = rw (eq-eqb _ _ (c .before .before .before .before .if1 .left), ← c .before .before .before .same-address .ensures, c .before .before .if2 .taken, ← c .before .stays .ensures, c .if3 .taken) (names-pass _ _ _)
 
 invalid-transition-requires : tie.Need-invalid-transition-requires
 invalid-transition-requires c κs = search needs
 
 returns-3 : tie.Need-returns-3
 unfolding ownedRule
-returns-3 c = rw (eq-eqb _ _ (c .before .before .before .before .before .if1 .left), ← c .before .before .before .before .same-address .ensures, c .before .before .before .if2 .taken, ← c .before .before .stays .ensures, c .before .if3 .left) (c .invalid-transition .ensures)
+returns-3 c = rw (eq-eqb _ _ (c .before .before .before .before .before .if1 .left), ← c .before .before .before .before .same-address .ensures, c .before .before .before .if2 .taken, ← c .before .before .stays .ensures, c .before .if3 .left) (c .invalid-transition .ensures _ _)
 
 returns-4 : tie.Need-returns-4
 unfolding ownedRule
@@ -45,7 +37,6 @@ owned-row-spec =
     returns
     same-address-requires
     stays-requires
-    name-and-start-requires
     returns-2
     invalid-transition-requires
     returns-3

@@ -1,11 +1,6 @@
 use borrow.Author.Needs.{needs}
-use native.Mathlib.Omega.{arith}
-use mathlib.Core.Path.{_≡_, refl, ap, sym, _∙_}
-use Rattle.links.specs.Rules.{freeRule, unknownRule}
 use Rattle.links.proofs.rows.pair_row.Statement.{statement}
 use Rattle.links.proofs.rows.pair_row.Tie as tie
-use Rattle.links.proofs.rows.pair_row.Reads as reads
-use Rattle.links.proofs.rows.pair_row.Lts as lts
 
 enum-told : tie.Need-enum-told
 enum-told c = search needs
@@ -47,27 +42,25 @@ unknown-row-requires : tie.Need-unknown-row-requires
 unknown-row-requires c κs = search needs
 
 returns : tie.Need-returns
-unfolding freeRule
-returns c = rw (c .before .enum-told .given .1) (c .free-row .ensures)
+returns c = rw (c .before .enum-told .given .1) (c .free-row .ensures _ _)
 
 returns-2 : tie.Need-returns-2
-returns-2 c = rw (c .before .enum-told2 .given .1) (c .bid-row .ensures)
+returns-2 c = rw (c .before .enum-told2 .given .1) (c .bid-row .ensures _ _)
 
 returns-3 : tie.Need-returns-3
-returns-3 c = rw (c .before .enum-told3 .given .1) (c .reveal-row .ensures)
+returns-3 c = rw (c .before .enum-told3 .given .1) (c .reveal-row .ensures _ _)
 
 returns-4 : tie.Need-returns-4
 returns-4 c = rw (c .before .enum-told4 .given .1) (c .owned-row .ensures)
 
 returns-5 : tie.Need-returns-5
-returns-5 c = rw (c .before .enum-told5 .given .1) (c .transfer-row .ensures)
+returns-5 c = rw (c .before .enum-told5 .given .1) (c .transfer-row .ensures _ _)
 
 returns-6 : tie.Need-returns-6
 returns-6 c = rw (c .enum-told6 .given .1)
 
 returns-7 : tie.Need-returns-7
-unfolding unknownRule
-returns-7 c = rw (c .before .enum-told7 .given .1) (c .unknown-row .ensures)
+returns-7 c = rw (c .before .enum-told7 .given .1) (c .unknown-row .ensures _ _)
 
 pub pair-row-spec : {M : Type 1} → statement M
 pair-row-spec =

@@ -3,8 +3,6 @@ use Rattle.links.specs.Workers.{rowOf}
 use borrow.Author.Tests.{ne-eqb}
 use Rattle.links.proofs.rows.row_of.Statement.{statement}
 use Rattle.links.proofs.rows.row_of.Tie as tie
-use Rattle.links.proofs.rows.row_of.Reads as reads
-use Rattle.links.proofs.rows.row_of.Lts as lts
 
 returns : tie.Need-returns
 returns c = sym (ap rowOf (c .match .keys1))

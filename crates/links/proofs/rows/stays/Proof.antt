@@ -2,8 +2,6 @@ use borrow.Author.Tests.{eq-eqb, ne-eqb}
 use Rattle.links.proofs.Judging.{one-of-one}
 use Rattle.links.proofs.rows.stays.Statement.{statement}
 use Rattle.links.proofs.rows.stays.Tie as tie
-use Rattle.links.proofs.rows.stays.Reads as reads
-use Rattle.links.proofs.rows.stays.Lts as lts
 
 returns : tie.Need-returns
 returns c = rw (eq-eqb _ _ (c .if1 .taken))

@@ -1,13 +1,10 @@
 use borrow.Author.Needs.{needs}
 use Rattle.primitives.specs.declared.Outpoint.{Outpoint}
 use Rattle.links.specs.Rules.{differs}
-use Rattle.links.specs.Verify.{told}
+use Rattle.links.specs.Verify.{answerOf}
 use mathlib.Core.Path.{ap₂}
 use Rattle.links.proofs.walk.mismatch.Statement.{statement}
 use Rattle.links.proofs.walk.mismatch.Tie as tie
-use Rattle.links.proofs.walk.mismatch.Reads as reads
-use Rattle.links.proofs.walk.mismatch.Lts as lts
-use Rattle.links.proofs.walk.outpoint_at.Reads as outpoint-at-reads
 
 outpoint-at-requires : tie.Need-outpoint-at-requires
 outpoint-at-requires c κs = search needs
@@ -16,7 +13,7 @@ outpoint-at-requires-2 : tie.Need-outpoint-at-requires-2
 outpoint-at-requires-2 c κs = search needs
 
 returns : tie.Need-returns
-returns c = ap₂ (λ (x : Outpoint) (y : Outpoint). told (differs (c .before .before .before .before .args .input) x y)) (c .before .outpoint-at .ensures) (c .outpoint-at2 .ensures)
+returns c = ap₂ (λ (x : Outpoint) (y : Outpoint). answerOf (differs (c .before .before .before .before .args .input) x y)) (c .before .outpoint-at .ensures) (c .outpoint-at2 .ensures)
 
 pub mismatch-spec : {M : Type 1} → statement M
 mismatch-spec = tie.close (tie.spec outpoint-at-requires outpoint-at-requires-2 returns)

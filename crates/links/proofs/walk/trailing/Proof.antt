@@ -5,7 +5,7 @@ use Rattle.refusal.proofs.Outcomes.{told}
 use Rattle.sheets.specs.Paper.{placePaper}
 use Rattle.links.specs.Rules.{linked, unpaired}
 use Rattle.links.specs.Verify as verify
-use Rattle.links.specs.Walk.{outputsIn}
+use Rattle.links.specs.Workers.{outputsIn}
 use Rattle.links.proofs.Unpaired.{Trailing, begin, ended, dead, stopped, more}
 use Rattle.links.proofs.walk.trailing.Statement.{statement}
 use Rattle.links.proofs.walk.trailing.Tie as tie
@@ -25,8 +25,8 @@ place-at-requires c κs = search needs
 enum-known-made : tie.Need-enum-known-made Inv-loop μ-loop
 enum-known-made c = search needs
 
-must-be-paired-requires : tie.Need-must-be-paired-requires Inv-loop μ-loop
-must-be-paired-requires c κs = search needs
+is-linked-requires : tie.Need-is-linked-requires Inv-loop μ-loop
+is-linked-requires c κs = search needs
 
 add-unpaired-output : tie.Need-add-unpaired-output Inv-loop μ-loop
 add-unpaired-output c = search needs
@@ -35,7 +35,7 @@ unpaired-output-requires : tie.Need-unpaired-output-requires Inv-loop μ-loop
 unpaired-output-requires c κs = search needs
 
 returns : tie.Need-returns Inv-loop μ-loop
-returns c = c .unpaired-output .ensures ∙ ap verify.told (stopped _ _ _ _ (c .before .before .before .before .before .before .before .before .loop .inv) (c .before .before .before .before .before .before .before .loop-test .taken) (told placePaper (c .before .before .before .before .before .before .place-at .ensures) (c .before .before .before .before .made .given .1)) (sym (c .before .before .must-be-paired .ensures) ∙ c .before .if1 .taken))
+returns c = c .unpaired-output .ensures ∙ ap verify.answerOf (stopped _ _ _ _ (c .before .before .before .before .before .before .before .before .loop .inv) (c .before .before .before .before .before .before .before .loop-test .taken) (told placePaper (c .before .before .before .before .before .before .place-at .ensures) (c .before .before .before .before .made .given .1)) (sym (c .before .before .is-linked .ensures) ∙ c .before .if1 .taken))
 
 enum-known-stop : tie.Need-enum-known-stop Inv-loop μ-loop
 enum-known-stop c = search needs
@@ -53,13 +53,13 @@ loop-less : tie.Need-loop-less Inv-loop μ-loop
 loop-less c = search needs
 
 loop-again : tie.Need-loop-again Inv-loop μ-loop
-loop-again c = more _ _ _ _ (c .before .before .before .before .before .before .before .loop .inv) (c .before .before .before .before .before .before .loop-test .taken) (told placePaper (c .before .before .before .before .before .place-at .ensures) (c .before .before .before .made .given .1)) (sym (c .before .must-be-paired .ensures) ∙ c .if1 .left)
+loop-again c = more _ _ _ _ (c .before .before .before .before .before .before .before .loop .inv) (c .before .before .before .before .before .before .loop-test .taken) (told placePaper (c .before .before .before .before .before .place-at .ensures) (c .before .before .before .made .given .1)) (sym (c .before .is-linked .ensures) ∙ c .if1 .left)
 
 answered-requires : tie.Need-answered-requires Inv-loop μ-loop
 answered-requires c κs = search needs
 
 returns-3 : tie.Need-returns-3 Inv-loop μ-loop
-returns-3 c = c .answered .ensures ∙ ap verify.told (ended _ _ _ _ (c .before .before .loop .inv) (c .before .loop-test .left))
+returns-3 c = c .answered .ensures ∙ ap verify.answerOf (ended _ _ _ _ (c .before .before .loop .inv) (c .before .loop-test .left))
 
 pub trailing-spec : {M : Type 1} → statement M
 trailing-spec =
@@ -70,7 +70,7 @@ trailing-spec =
     loop-holds
     place-at-requires
     enum-known-made
-    must-be-paired-requires
+    is-linked-requires
     add-unpaired-output
     unpaired-output-requires
     returns

@@ -8,87 +8,66 @@ use Rattle.name_state.proofs.NameState.bitmap.Lts as lts
 use Rattle.name_state.proofs.flag.Reads as flag-reads
 use Rattle.primitives.proofs.Outpoint.is_null.Reads as is-null-reads
 
--- src/lib.rt:183:27
 is-null-requires : tie.Need-is-null-requires
 is-null-requires c κs = search needs
 
--- src/lib.rt:183:13
 flag-requires : tie.Need-flag-requires
 flag-requires c κs = search needs
 
--- src/lib.rt:184:23
 flag-requires-2 : tie.Need-flag-requires-2
 flag-requires-2 c κs = search needs
 
--- src/lib.rt:184:52
 flag-requires-3 : tie.Need-flag-requires-3
 flag-requires-3 c κs = search needs
 
--- src/lib.rt:184:23
 add-amounts : tie.Need-add-amounts
 add-amounts c = search needs
 
--- src/lib.rt:185:21
 flag-requires-4 : tie.Need-flag-requires-4
 flag-requires-4 c κs = search needs
 
--- src/lib.rt:185:53
 flag-requires-5 : tie.Need-flag-requires-5
 flag-requires-5 c κs = search needs
 
--- src/lib.rt:185:21
 add-times : tie.Need-add-times
 add-times c = search needs
 
--- src/lib.rt:185:85
 flag-requires-6 : tie.Need-flag-requires-6
 flag-requires-6 c κs = search needs
 
--- src/lib.rt:185:21
 add-times-2 : tie.Need-add-times-2
 add-times-2 c = search needs
 
--- src/lib.rt:186:13
 flag-requires-7 : tie.Need-flag-requires-7
 flag-requires-7 c κs = search needs
 
--- src/lib.rt:187:21
 flag-requires-8 : tie.Need-flag-requires-8
 flag-requires-8 c κs = search needs
 
--- src/lib.rt:187:50
 flag-requires-9 : tie.Need-flag-requires-9
 flag-requires-9 c κs = search needs
 
--- src/lib.rt:187:21
 add-flags : tie.Need-add-flags
 add-flags c = search needs
 
--- src/lib.rt:187:76
 flag-requires-10 : tie.Need-flag-requires-10
 flag-requires-10 c κs = search needs
 
--- src/lib.rt:187:21
 add-flags-2 : tie.Need-add-flags-2
 add-flags-2 c = search needs
 
--- src/lib.rt:188:9
 add-result : tie.Need-add-result
 add-result c = omega (arith, c .before .before .before .before .before .before .before .before .before .before .before .before .before .before .before .flag .ensures .1, c .before .before .before .before .before .before .before .before .before .before .before .before .before .flag2 .ensures .1, c .before .before .before .before .before .before .before .before .before .before .before .flag3 .ensures .1)
 
--- src/lib.rt:188:9
 add-result-2 : tie.Need-add-result-2
 add-result-2 c = omega (arith, c .before .before .before .before .before .before .before .before .before .before .before .before .before .before .before .flag .ensures .1, c .before .before .before .before .before .before .before .before .before .before .before .before .before .flag2 .ensures .1, c .before .before .before .before .before .before .before .before .before .before .before .flag3 .ensures .1, c .before .before .before .before .before .before .before .before .before .flag4 .ensures .1, c .before .before .before .before .before .before .before .flag5 .ensures .1, c .before .before .before .before .before .flag6 .ensures .1)
 
--- src/lib.rt:188:9
 add-result-3 : tie.Need-add-result-3
 add-result-3 c = omega (arith, c .before .before .before .before .before .before .before .before .before .before .before .before .before .before .before .flag .ensures .1, c .before .before .before .before .before .before .before .before .before .before .before .before .before .flag2 .ensures .1, c .before .before .before .before .before .before .before .before .before .before .before .flag3 .ensures .1, c .before .before .before .before .before .before .before .before .before .flag4 .ensures .1, c .before .before .before .before .before .before .before .flag5 .ensures .1, c .before .before .before .before .before .flag6 .ensures .1, c .before .before .before .flag7 .ensures .1)
 
--- src/lib.rt:188:9
 add-result-4 : tie.Need-add-result-4
 add-result-4 c = omega (arith, c .before .before .before .before .before .before .before .before .before .before .before .before .before .before .before .flag .ensures .1, c .before .before .before .before .before .before .before .before .before .before .before .before .before .flag2 .ensures .1, c .before .before .before .before .before .before .before .before .before .before .before .flag3 .ensures .1, c .before .before .before .before .before .before .before .before .before .flag4 .ensures .1, c .before .before .before .before .before .before .before .flag5 .ensures .1, c .before .before .before .before .before .flag6 .ensures .1, c .before .before .before .flag7 .ensures .1, c .before .before .flag8 .ensures .1, c .before .flag9 .ensures .1, c .flag10 .ensures .1)
 
--- src/lib.rt:179:5
 returns : tie.Need-returns
 unfolding bitmap
 returns c = rw (← c .before .before .before .before .before .before .before .before .before .before .before .before .before .before .before .before .is-null .ensures) (omega (arith, c .before .before .before .before .before .before .before .before .before .before .before .before .before .before .before .flag .ensures .0, c .before .before .before .before .before .before .before .before .before .before .before .before .before .flag2 .ensures .0, c .before .before .before .before .before .before .before .before .before .before .before .flag3 .ensures .0, c .before .before .before .before .before .before .before .before .before .flag4 .ensures .0, c .before .before .before .before .before .before .before .flag5 .ensures .0, c .before .before .before .before .before .flag6 .ensures .0, c .before .before .before .flag7 .ensures .0, c .before .before .flag8 .ensures .0, c .before .flag9 .ensures .0, c .flag10 .ensures .0))

@@ -6,23 +6,18 @@ use Rattle.name_state.proofs.NameState.class.Lts as lts
 use Rattle.name_state.proofs.NameState.is_null.Reads as NameState-is-null-reads
 use Rattle.primitives.proofs.Outpoint.is_null.Reads as Outpoint-is-null-reads
 
--- src/lib.rt:168:12
 is-null-requires : tie.Need-is-null-requires
 is-null-requires c κs = search needs
 
--- src/lib.rt:169:13
 returns : tie.Need-returns
 returns c = rw (← c .before .is-null .ensures, c .if1 .taken)
 
--- src/lib.rt:172:12
 is-null-requires-2 : tie.Need-is-null-requires-2
 is-null-requires-2 c κs = search needs
 
--- src/lib.rt:173:13
 returns-2 : tie.Need-returns-2
 returns-2 c = rw (← c .before .before .before .before .is-null .ensures, c .before .before .before .if1 .left, ← c .before .is-null2 .ensures, c .if2 .taken)
 
--- src/lib.rt:165:5
 returns-3 : tie.Need-returns-3
 returns-3 c = rw (← c .before .before .before .before .is-null .ensures, c .before .before .before .if1 .left, ← c .before .is-null2 .ensures, c .if2 .left)
 

@@ -5,7 +5,6 @@ use Rattle.name_state.proofs.NameState.null.Tie as tie
 use Rattle.name_state.proofs.NameState.null.Reads as reads
 use Rattle.name_state.proofs.NameState.null.Lts as lts
 
--- src/lib.rt:103:5
 returns : tie.Need-returns
 unfolding padded
 returns c = refl

@@ -5,15 +5,12 @@ use Rattle.name_state.proofs.NameState.owner_outpoint.Reads as reads
 use Rattle.name_state.proofs.NameState.owner_outpoint.Lts as lts
 use Rattle.primitives.proofs.Outpoint.is_null.Reads as is-null-reads
 
--- src/lib.rt:150:12
 is-null-requires : tie.Need-is-null-requires
 is-null-requires c κs = search needs
 
--- src/lib.rt:151:13
 returns : tie.Need-returns
 returns c = rw (← c .before .is-null .ensures, c .if1 .taken)
 
--- src/lib.rt:146:5
 returns-2 : tie.Need-returns-2
 returns-2 c = rw (← c .before .is-null .ensures, c .if1 .left)
 

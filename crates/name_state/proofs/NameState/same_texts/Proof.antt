@@ -9,57 +9,45 @@ use Rattle.name_state.proofs.NameState.same_texts.Lts as lts
 use Rattle.name_state.proofs.comparison.same_text.Reads as same-text-reads
 use Rattle.words.proofs.same.same_bytes.Reads as same-bytes-reads
 
--- src/comparison.rt:56:24
 slice-aggregate-same-bytes : tie.Need-slice-aggregate-same-bytes
 slice-aggregate-same-bytes c = search needs
 
--- src/comparison.rt:56:30
 slice-aggregate-same-bytes-2 : tie.Need-slice-aggregate-same-bytes-2
 slice-aggregate-same-bytes-2 c = search needs
 
--- src/comparison.rt:56:13
 same-bytes-requires : tie.Need-same-bytes-requires
 same-bytes-requires c κs = search needs
 
--- src/comparison.rt:57:13
 returns : tie.Need-returns
 returns c = rw (← c .before .same-bytes .ensures, not-true (c .before .same-bytes .result) (c .if1 .taken))
 
--- src/comparison.rt:61:23
 slice-aggregate-same-text : tie.Need-slice-aggregate-same-text
 slice-aggregate-same-text c = search needs
 
--- src/comparison.rt:61:48
 slice-aggregate-same-text-2 : tie.Need-slice-aggregate-same-text-2
 slice-aggregate-same-text-2 c = search needs
 
--- src/comparison.rt:61:13
 same-text-requires : tie.Need-same-text-requires
 same-text-requires c κs =
     let h : length (c .before .before .before .before .before .before .before .before .before .before .before .before .args .self .name) ≡ 63 = search (needs, c .before .before .before .before .before .before .before .before .before .before .before .before .good .0) in
     let k : length (c .before .before .before .before .before .before .before .before .before .before .before .before .args .other .name) ≡ 63 = search (needs, c .before .before .before .before .before .before .before .before .before .before .before .before .good .1) in
     h ∙ sym k
 
--- src/comparison.rt:62:13
 returns-2 : tie.Need-returns-2
 returns-2 c = rw (← c .before .before .before .before .before .before .before .same-bytes .ensures, not-false (c .before .before .before .before .before .before .before .same-bytes .result) (c .before .before .before .before .before .before .if1 .left), ← c .before .same-text .ensures, not-true (c .before .same-text .result) (c .if2 .taken))
 
--- src/comparison.rt:66:19
 slice-aggregate-same-text-3 : tie.Need-slice-aggregate-same-text-3
 slice-aggregate-same-text-3 c = search (needs, c .before .before .before .before .before .before .before .before .before .before .before .before .before .before .before .before .before .good .0)
 
--- src/comparison.rt:66:52
 slice-aggregate-same-text-4 : tie.Need-slice-aggregate-same-text-4
 slice-aggregate-same-text-4 c = search (needs, c .before .before .before .before .before .before .before .before .before .before .before .before .before .before .before .before .before .before .good .1)
 
--- src/comparison.rt:66:9
 same-text-requires-2 : tie.Need-same-text-requires-2
 same-text-requires-2 c κs =
     let h : length (c .before .before .before .before .before .before .before .before .before .before .before .before .before .before .before .before .before .before .args .self .«resource_data») ≡ 512 = search (needs, c .before .before .before .before .before .before .before .before .before .before .before .before .before .before .before .before .before .before .good .0) in
     let k : length (c .before .before .before .before .before .before .before .before .before .before .before .before .before .before .before .before .before .before .args .other .«resource_data») ≡ 512 = search (needs, c .before .before .before .before .before .before .before .before .before .before .before .before .before .before .before .before .before .before .good .1) in
     h ∙ sym k
 
--- src/comparison.rt:49:5
 returns-3 : tie.Need-returns-3
 returns-3 c = rw (← c .before .before .before .before .before .before .before .before .before .before .before .before .same-bytes .ensures, not-false (c .before .before .before .before .before .before .before .before .before .before .before .before .same-bytes .result) (c .before .before .before .before .before .before .before .before .before .before .before .if1 .left), ← c .before .before .before .before .before .before .same-text .ensures, not-false (c .before .before .before .before .before .before .same-text .result) (c .before .before .before .before .before .if2 .left)) (c .same-text2 .ensures)
 

@@ -13,27 +13,21 @@ use Rattle.name_state.proofs.comparison.same_text.Lts as lts
 use Rattle.name_state.proofs.comparison.within.Reads as within-reads
 use Rattle.words.proofs.same.same_bytes.Reads as same-bytes-reads
 
--- src/comparison.rt:29:9
 returns : tie.Need-returns
 returns c = sym (same-other _ _ _ _ (c .if1 .taken))
 
--- src/comparison.rt:31:9
 within-requires : tie.Need-within-requires
 within-requires c κs = search needs
 
--- src/comparison.rt:32:16
 slice-aggregate-same-bytes : tie.Need-slice-aggregate-same-bytes
 slice-aggregate-same-bytes c = sym (length-take-le (c .before .within .result) (c .before .before .before .before .before .args .a .now) (omega (arith, c .before .within .ensures)))
 
--- src/comparison.rt:32:25
 slice-aggregate-same-bytes-2 : tie.Need-slice-aggregate-same-bytes-2
 slice-aggregate-same-bytes-2 c = sym (length-take-le (c .before .before .within .result) (c .before .before .before .before .before .before .args .b .now) (omega (arith, c .before .before .within .ensures, c .before .before .before .before .before .before .pre)))
 
--- src/comparison.rt:32:5
 same-bytes-requires : tie.Need-same-bytes-requires
 same-bytes-requires c κs = search needs
 
--- src/comparison.rt:24:1
 returns-2 : tie.Need-returns-2
 returns-2 c = let a = c .before .before .before .before .before .before .before .args in c .same-bytes .ensures ∙ same-within (a .n) (c .before .before .before .within .result) (a .a .now) (a .b .now) (c .before .before .before .before .before .before .before .pre) (c .before .before .before .within .ensures) ∙ ap (λ (m : ℕ). same (text (a .n) (a .a .now)) (text m (a .b .now))) (c .before .before .before .before .if1 .left)
 

@@ -8,19 +8,15 @@ use Rattle.primitives.proofs.Dollarydoos.checked_add.Tie as tie
 use Rattle.primitives.proofs.Dollarydoos.checked_add.Reads as reads
 use Rattle.primitives.proofs.Dollarydoos.checked_add.Lts as lts
 
--- src/lib.rt:36:12
 sub-if1 : tie.Need-sub-if1
 sub-if1 c = search needs
 
--- src/lib.rt:37:13
 returns : tie.Need-returns
 returns c = sym (simp (le-ltb (c .before .args .self .0 + c .before .args .other .0) (2 ^ 64) (omega arith)))
 
--- src/lib.rt:39:36
 add-t5 : tie.Need-add-t5
 add-t5 c = search needs
 
--- src/lib.rt:31:5
 returns-2 : tie.Need-returns-2
 returns-2 c = sym (simp (lt-ltb (c .before .args .self .0 + c .before .args .other .0) (2 ^ 64) (omega arith)))
 

@@ -7,11 +7,9 @@ use Rattle.primitives.proofs.Dollarydoos.checked_sub.Tie as tie
 use Rattle.primitives.proofs.Dollarydoos.checked_sub.Reads as reads
 use Rattle.primitives.proofs.Dollarydoos.checked_sub.Lts as lts
 
--- src/lib.rt:48:13
 returns : tie.Need-returns
 returns c = simp (lt-ltb _ _ (c .if1 .taken))
 
--- src/lib.rt:42:5
 returns-2 : tie.Need-returns-2
 returns-2 c = simp (le-ltb _ _ (c .if1 .left))
 

@@ -14,31 +14,24 @@ use Rattle.primitives.proofs.Outpoint.encode.Lts as lts
 use Rattle.words.proofs.store.put_bytes.Reads as put-bytes-reads
 use Rattle.words.proofs.store.put_le.Reads as put-le-reads
 
--- src/lib.rt:99:19
 slice-aggregate-put-bytes : tie.Need-slice-aggregate-put-bytes
 slice-aggregate-put-bytes c = search needs
 
--- src/lib.rt:99:36
 slice-aggregate-put-bytes-2 : tie.Need-slice-aggregate-put-bytes-2
 slice-aggregate-put-bytes-2 c = search needs
 
--- src/lib.rt:99:9
 put-bytes-requires : tie.Need-put-bytes-requires
 put-bytes-requires c κs = search needs
 
--- src/lib.rt:100:16
 slice-aggregate-put-le : tie.Need-slice-aggregate-put-le
 slice-aggregate-put-le c = search needs
 
--- src/lib.rt:100:37
 cast-put-le : tie.Need-cast-put-le
 cast-put-le c = search needs
 
--- src/lib.rt:100:9
 put-le-requires : tie.Need-put-le-requires
 put-le-requires c κs = search needs
 
--- src/lib.rt:93:5
 returns : tie.Need-returns
 unfolding outpointBytes
 returns c = c .before .put-le .ensures .1 ∙ ap (laid 32 (bytes 4 (c .before .before .before .before .before .before .before .before .before .before .args .self .index))) (c .before .before .before .before .before .put-bytes .ensures .1) ∙ laid-two _ _ _ (search needs) (omega (arith, length-bytes 4 (c .before .before .before .before .before .before .before .before .before .before .args .self .index)))

@@ -9,16 +9,13 @@ use Rattle.primitives.proofs.Outpoint.is_null.Reads as reads
 use Rattle.primitives.proofs.Outpoint.is_null.Lts as lts
 use Rattle.primitives.proofs.Outpoint.same.Reads as same-reads
 
--- src/lib.rt:99:13
 returns : tie.Need-returns
 unfolding isNull sameOutpoint
 returns c = rw (ne-eqb _ _ (c .if1 .taken))
 
--- src/lib.rt:101:9
 same-requires : tie.Need-same-requires
 same-requires c κs = search needs
 
--- src/lib.rt:93:5
 returns-2 : tie.Need-returns-2
 unfolding isNull
 returns-2 c = c .same .ensures

@@ -9,24 +9,19 @@ use Rattle.primitives.proofs.Outpoint.same.Reads as reads
 use Rattle.primitives.proofs.Outpoint.same.Lts as lts
 use Rattle.words.proofs.same.same_bytes.Reads as same-bytes-reads
 
--- src/lib.rt:77:13
 returns : tie.Need-returns
 unfolding sameOutpoint
 returns c = rw (ne-eqb _ _ (c .if1 .taken))
 
--- src/lib.rt:83:20
 slice-aggregate-same-bytes : tie.Need-slice-aggregate-same-bytes
 slice-aggregate-same-bytes c = search needs
 
--- src/lib.rt:83:24
 slice-aggregate-same-bytes-2 : tie.Need-slice-aggregate-same-bytes-2
 slice-aggregate-same-bytes-2 c = search needs
 
--- src/lib.rt:83:9
 same-bytes-requires : tie.Need-same-bytes-requires
 same-bytes-requires c κs = search needs
 
--- src/lib.rt:73:5
 returns-2 : tie.Need-returns-2
 unfolding sameOutpoint
 returns-2 c = rw (eq-eqb _ _ (c .before .before .before .before .before .before .before .if1 .left)) (c .same-bytes .ensures)

@@ -38,7 +38,7 @@ returns c =
     c .before .put-bytes .ensures .1
     ∙ ap (laid 8 hash) (c .before .before .before .before .before .put-le .ensures .1)
     ∙ laid-two (bytes 8 (c .before .before .before .before .before .before .before .before .before .name-number .result)) hash _ (length-bytes 8 (c .before .before .before .before .before .before .before .before .before .name-number .result)) (omega (arith, long))
-    ∙ rw (c .before .before .before .before .before .before .before .before .before .name-number .ensures) (name-answer (c .before .before .before .before .before .before .before .before .before .before .before .before .args .a .now) hash (c .before .before .before .before .before .before .before .before .before .before .hash-name .result .valid) (c .before .before .before .before .before .before .before .before .before .before .hash-name .ensures))
+    ∙ name-answer (c .before .before .before .before .before .before .before .before .before .before .before .before .args .a .now) (c .before .before .before .before .before .before .before .before .before .name-number .ensures) (c .before .before .before .before .before .before .before .before .before .before .hash-name .ensures)
 
 pub name-spec : {M : Type 1} → statement M
 name-spec =

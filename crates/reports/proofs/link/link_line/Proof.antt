@@ -1,8 +1,11 @@
 use borrow.Author.Needs.{needs}
 use native.Mathlib.Omega.{arith}
 use mathlib.Core.Path.{_≡_, refl, ap, sym, _∙_}
+use lib.ListN.{replicate}
 use lib.Seq.{length-take-le}
-use Rattle.reports.proofs.Line.{laid-stands}
+use Rattle.texts.proofs.Puts.{puts-stands}
+use Rattle.reports.specs.Link.{linkLine}
+use Rattle.reports.proofs.Theorems.{link-line-fits}
 use Rattle.reports.proofs.link.link_line.Statement.{statement}
 use Rattle.reports.proofs.link.link_line.Tie as tie
 use Rattle.reports.proofs.link.link_line.Reads as reads
@@ -10,33 +13,38 @@ use Rattle.reports.proofs.link.link_line.Lts as lts
 use Rattle.encoding.proofs.put.put_bytes.Reads as put-bytes-reads
 use Rattle.reports.proofs.link.put_line.Reads as put-line-reads
 
--- src/link.rt:130:22
 slice-aggregate-put-line : tie.Need-slice-aggregate-put-line
 slice-aggregate-put-line c = search needs
 
--- src/link.rt:130:9
 put-line-requires : tie.Need-put-line-requires
 put-line-requires c κs = search needs
 
--- src/link.rt:131:23
 array-share-prefix-line : tie.Need-array-share-prefix-line
-array-share-prefix-line c = search needs
+array-share-prefix-line c =
+    let made = c .before .before in
+    let start = made .before .before .before .before .before in
+    let stood = puts-stands (replicate 89 0) (linkLine (start .args .tx .now) (start .args .coins .now)) (link-line-fits (start .args .tx .now) (start .args .coins .now)) (made .put-line .ensures) in
+    omega (arith, stood .0, made .put-line .kept .0)
 
--- src/link.rt:131:23
 slice-aggregate-put-bytes : tie.Need-slice-aggregate-put-bytes
-slice-aggregate-put-bytes c = sym (length-take-le _ _ (omega (arith, c .before .before .before .put-line .ensures .1, c .before .before .before .put-line .kept .0)))
+slice-aggregate-put-bytes c =
+    let made = c .before .before .before in
+    let start = made .before .before .before .before .before in
+    let stood = puts-stands (replicate 89 0) (linkLine (start .args .tx .now) (start .args .coins .now)) (link-line-fits (start .args .tx .now) (start .args .coins .now)) (made .put-line .ensures) in
+    sym (length-take-le _ _ (omega (arith, stood .0, made .put-line .kept .0)))
 
--- src/link.rt:131:5
 put-bytes-requires : tie.Need-put-bytes-requires
 put-bytes-requires c κs = search needs
 
--- src/link.rt:125:1
 same-length : tie.Need-same-length
 same-length c = search needs
 
--- src/link.rt:125:1
 returns : tie.Need-returns
-returns c = rw (← laid-stands (c .before .before .before .before .before .before .put-line .ensures .0)) (c .before .before .put-bytes .ensures)
+returns c =
+    let made = c .before .before .before .before .before .before in
+    let start = made .before .before .before .before .before in
+    let stood = puts-stands (replicate 89 0) (linkLine (start .args .tx .now) (start .args .coins .now)) (link-line-fits (start .args .tx .now) (start .args .coins .now)) (made .put-line .ensures) in
+    rw (← stood .1) (c .before .before .put-bytes .ensures)
 
 pub link-line-spec : {M : Type 1} → statement M
 link-line-spec =

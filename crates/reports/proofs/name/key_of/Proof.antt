@@ -10,19 +10,15 @@ use Rattle.reports.proofs.name.key_of.Reads as reads
 use Rattle.reports.proofs.name.key_of.Lts as lts
 use Rattle.encoding.proofs.put.put_bytes.Reads as put-bytes-reads
 
--- src/name.rt:69:15
 slice-aggregate-put-bytes : tie.Need-slice-aggregate-put-bytes
 slice-aggregate-put-bytes c = search needs
 
--- src/name.rt:69:28
 slice-aggregate-put-bytes-2 : tie.Need-slice-aggregate-put-bytes-2
 slice-aggregate-put-bytes-2 c = sym (length-take-le 32 (c .before .before .before .args .file .now) (c .before .before .before .pre))
 
--- src/name.rt:69:5
 put-bytes-requires : tie.Need-put-bytes-requires
 put-bytes-requires c κs = search needs
 
--- src/name.rt:64:1
 returns : tie.Need-returns
 returns c = c .before .put-bytes .ensures .1 ∙ laid-all (take 32 (c .before .before .before .before .before .args .file .now)) (replicate 32 0) (length-take-le 32 (c .before .before .before .before .before .args .file .now) (c .before .before .before .before .before .pre))
 

@@ -5,67 +5,52 @@ use Rattle.reports.proofs.name.put_class.Statement.{statement}
 use Rattle.reports.proofs.name.put_class.Tie as tie
 use Rattle.reports.proofs.name.put_class.Reads as reads
 use Rattle.reports.proofs.name.put_class.Lts as lts
-use Rattle.reports.proofs.text.put_text.Reads as put-text-reads
+use Rattle.texts.proofs.put_text.Reads as put-text-reads
 
--- src/name.rt:31:33
 enum-told : tie.Need-enum-told
 enum-told c = search needs
 
--- src/name.rt:31:40
 slice-aggregate-put-text : tie.Need-slice-aggregate-put-text
 slice-aggregate-put-text c = search needs
 
--- src/name.rt:31:24
 put-text-requires : tie.Need-put-text-requires
 put-text-requires c κs = search needs
 
--- src/name.rt:32:33
 enum-told-2 : tie.Need-enum-told-2
 enum-told-2 c = search needs
 
--- src/name.rt:32:40
 slice-aggregate-put-text-2 : tie.Need-slice-aggregate-put-text-2
 slice-aggregate-put-text-2 c = search needs
 
--- src/name.rt:32:24
 put-text-requires-2 : tie.Need-put-text-requires-2
 put-text-requires-2 c κs = search needs
 
--- src/name.rt:33:33
 enum-told-3 : tie.Need-enum-told-3
 enum-told-3 c = search needs
 
--- src/name.rt:33:40
 slice-aggregate-put-text-3 : tie.Need-slice-aggregate-put-text-3
 slice-aggregate-put-text-3 c = search needs
 
--- src/name.rt:33:24
 put-text-requires-3 : tie.Need-put-text-requires-3
 put-text-requires-3 c κs = search needs
 
--- src/name.rt:26:1
 same-length : tie.Need-same-length
 same-length c = search needs
 
--- src/name.rt:26:1
 returns : tie.Need-returns
-returns c = rw (c .before .before .before .before .before .enum-told .given .1) (c .before .before .put-text .ensures, c .before .before .put-text .ensures .ends)
+returns c = rw (c .before .before .before .before .before .enum-told .given .1) (c .before .before .put-text .ensures)
 
--- src/name.rt:26:1
 same-length-2 : tie.Need-same-length-2
 same-length-2 c = search needs
 
--- src/name.rt:26:1
 returns-2 : tie.Need-returns-2
-returns-2 c = rw (c .before .before .before .before .before .enum-told2 .given .1) (c .before .before .put-text2 .ensures, c .before .before .put-text2 .ensures .ends)
+returns-2 c = rw (c .before .before .before .before .before .enum-told2 .given .1) (c .before .before .put-text2 .ensures)
 
--- src/name.rt:26:1
 same-length-3 : tie.Need-same-length-3
 same-length-3 c = search needs
 
--- src/name.rt:26:1
 returns-3 : tie.Need-returns-3
-returns-3 c = rw (c .before .before .before .before .before .enum-told3 .given .1) (c .before .before .put-text3 .ensures, c .before .before .put-text3 .ensures .ends)
+returns-3 c = rw (c .before .before .before .before .before .enum-told3 .given .1) (c .before .before .put-text3 .ensures)
 
 pub put-class-spec : {M : Type 1} → statement M
 put-class-spec =

@@ -6,15 +6,12 @@ use Rattle.words.proofs.load.byte.Tie as tie
 use Rattle.words.proofs.load.byte.Reads as reads
 use Rattle.words.proofs.load.byte.Lts as lts
 
--- src/load.rt:13:5
 shared-slice-read-result : tie.Need-shared-slice-read-result
 shared-slice-read-result c = search needs
 
--- src/load.rt:13:5
 cast-result : tie.Need-cast-result
 cast-result c = omega (arith, c .shared-slice-known .given (c .before .args .i))
 
--- src/load.rt:9:1
 returns : tie.Need-returns
 returns c = (refl, omega (arith, c .shared-slice-known .given (c .before .args .i)))
 

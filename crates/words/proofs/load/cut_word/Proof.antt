@@ -14,35 +14,27 @@ use Rattle.words.proofs.load.cut_word.Lts as lts
 use Rattle.words.proofs.load.whole_word.Reads as whole-word-reads
 use Rattle.words.proofs.store.put_bytes.Reads as put-bytes-reads
 
--- src/load.rt:37:15
 slice-aggregate-put-bytes : tie.Need-slice-aggregate-put-bytes
 slice-aggregate-put-bytes c = search needs
 
--- src/load.rt:37:29
 sub-put-bytes : tie.Need-sub-put-bytes
 sub-put-bytes c = search needs
 
--- src/load.rt:37:29
 part-put-bytes-start : tie.Need-part-put-bytes-start
 part-put-bytes-start c = search needs
 
--- src/load.rt:37:29
 part-put-bytes-end : tie.Need-part-put-bytes-end
 part-put-bytes-end c = search needs
 
--- src/load.rt:37:5
 put-bytes-requires : tie.Need-put-bytes-requires
 put-bytes-requires c κs = search needs
 
--- src/load.rt:38:16
 slice-aggregate-whole-word : tie.Need-slice-aggregate-whole-word
 slice-aggregate-whole-word c = search needs
 
--- src/load.rt:38:5
 whole-word-requires : tie.Need-whole-word-requires
 whole-word-requires c κs = search needs
 
--- src/load.rt:32:1
 returns : tie.Need-returns
 returns c =
     let m = c .before .before .before .before .before .before .before .args .m .now in

@@ -19,37 +19,29 @@ Inv-loop out₀ m at next₀ i₀ out next i = (i ≤ length out₀) × (length 
 abbrev μ-loop : tie.MeasureT-loop
 μ-loop out₀ m at next₀ i₀ out next i = length out₀ - i
 
--- src/load.rt:75:5
 loop-holds : tie.Need-loop-holds Inv-loop μ-loop
 loop-holds c =
     let q : length (c .before .before .args .out .now) - 0 ≡ length (c .before .before .args .out .now) = omega arith in
     (omega arith, refl, omega arith, rw q)
 
--- src/load.rt:76:18
 load-u64-requires : tie.Need-load-u64-requires Inv-loop μ-loop
 load-u64-requires c κs = search needs
 
--- src/load.rt:76:9
 mul-out : tie.Need-mul-out Inv-loop μ-loop
 mul-out c = search needs
 
--- src/load.rt:76:9
 slice-write-out : tie.Need-slice-write-out Inv-loop μ-loop
 slice-write-out c = search needs
 
--- src/load.rt:77:9
 past-word-requires : tie.Need-past-word-requires Inv-loop μ-loop
 past-word-requires c κs = search needs
 
--- src/load.rt:78:9
 add-i : tie.Need-add-i Inv-loop μ-loop
 add-i c = search needs
 
--- src/load.rt:75:5
 loop-less : tie.Need-loop-less Inv-loop μ-loop
 loop-less c = search needs
 
--- src/load.rt:75:5
 loop-again : tie.Need-loop-again Inv-loop μ-loop
 loop-again c =
     let l = c .before .before .before .loop in
@@ -57,11 +49,9 @@ loop-again c =
     let step = lanes-more (l .out) (drop (l .next) (c .before .before .before .before .before .before .args .m .now)) {i = l .i} {i′ = l .i + 1} {k = n - (l .i + 1)} {k′ = n - l .i} (omega arith) (omega arith) in
     (omega arith, simp length-set (l .inv .1), c .past-word .ensures .0, rw (c .past-word .ensures .1, c .before .load-u64 .ensures) (sym step ∙ l .inv .3))
 
--- src/load.rt:69:1
 same-length : tie.Need-same-length Inv-loop μ-loop
 same-length c = c .before .loop .inv .1
 
--- src/load.rt:69:1
 returns : tie.Need-returns Inv-loop μ-loop
 unfolding lanes
 returns c =

@@ -12,28 +12,22 @@ use Rattle.words.proofs.load.load_u64.Lts as lts
 use Rattle.words.proofs.load.cut_word.Reads as cut-word-reads
 use Rattle.words.proofs.load.whole_word.Reads as whole-word-reads
 
--- src/load.rt:46:9
 returns : tie.Need-returns
 unfolding le
 returns c = rw (drop-of-length-le (c .before .before .args .m .now) {i = c .before .before .args .at} (omega arith))
 
--- src/load.rt:48:8
 sub-if2 : tie.Need-sub-if2
 sub-if2 c = search needs
 
--- src/load.rt:49:9
 cut-word-requires : tie.Need-cut-word-requires
 cut-word-requires c κs = search needs
 
--- src/load.rt:49:9
 returns-2 : tie.Need-returns-2
 returns-2 c = search needs
 
--- src/load.rt:51:5
 whole-word-requires : tie.Need-whole-word-requires
 whole-word-requires c κs = search needs
 
--- src/load.rt:42:1
 returns-3 : tie.Need-returns-3
 returns-3 c = search needs
 

@@ -11,43 +11,33 @@ use Rattle.words.proofs.load.load_words.Lts as lts
 use Rattle.words.proofs.load.cut_words.Reads as cut-words-reads
 use Rattle.words.proofs.load.whole_words.Reads as whole-words-reads
 
--- src/load.rt:98:9
 cut-words-requires : tie.Need-cut-words-requires
 cut-words-requires c κs = search needs
 
--- src/load.rt:99:9
 same-length : tie.Need-same-length
 same-length c = search needs
 
--- src/load.rt:99:9
 returns : tie.Need-returns
 returns c = c .before .before .cut-words .ensures ∙ ap (lanes (length (c .before .before .before .before .before .before .before .args .out .now))) (drop-length (c .before .before .before .before .before .before .before .args .m .now) ∙ sym (drop-of-length-le (c .before .before .before .before .before .before .before .args .m .now) {i = c .before .before .before .before .before .before .before .args .at} (omega arith)))
 
--- src/load.rt:101:9
 sub-if2 : tie.Need-sub-if2
 sub-if2 c = search needs
 
--- src/load.rt:102:9
 cut-words-requires-2 : tie.Need-cut-words-requires-2
 cut-words-requires-2 c κs = search needs
 
--- src/load.rt:103:9
 same-length-2 : tie.Need-same-length-2
 same-length-2 c = search needs
 
--- src/load.rt:103:9
 returns-2 : tie.Need-returns-2
 returns-2 c = search needs
 
--- src/load.rt:105:5
 whole-words-requires : tie.Need-whole-words-requires
 whole-words-requires c κs = search needs
 
--- src/load.rt:94:1
 same-length-3 : tie.Need-same-length-3
 same-length-3 c = search needs
 
--- src/load.rt:94:1
 returns-3 : tie.Need-returns-3
 returns-3 c = search needs
 

@@ -8,19 +8,15 @@ use Rattle.words.proofs.load.past_word.Tie as tie
 use Rattle.words.proofs.load.past_word.Reads as reads
 use Rattle.words.proofs.load.past_word.Lts as lts
 
--- src/load.rt:85:8
 sub-if1 : tie.Need-sub-if1
 sub-if1 c = search needs
 
--- src/load.rt:86:9
 returns : tie.Need-returns
 returns c = (omega arith, drop-length (c .before .args .m .now) ∙ sym (drop-of-length-le (drop (c .before .args .at) (c .before .args .m .now)) {i = 8} (simp length-drop (omega arith))))
 
--- src/load.rt:88:5
 add-result : tie.Need-add-result
 add-result c = search needs
 
--- src/load.rt:81:1
 returns-2 : tie.Need-returns-2
 returns-2 c = (omega arith, sym (drop-drop 8 (c .before .args .at) (c .before .args .m .now)))
 

@@ -8,19 +8,15 @@ use Rattle.words.proofs.same.same_bytes.Lts as lts
 use Rattle.words.proofs.same.same_from.Reads as same-from-reads
 use Rattle.words.proofs.same.same_words.Reads as same-words-reads
 
--- src/same.rt:42:9
 returns : tie.Need-returns
 returns c = sym (same-long _ _ (c .if1 .taken))
 
--- src/same.rt:44:21
 same-words-requires : tie.Need-same-words-requires
 same-words-requires c κs = search needs
 
--- src/same.rt:44:5
 same-from-requires : tie.Need-same-from-requires
 same-from-requires c κs = search needs
 
--- src/same.rt:38:1
 returns-2 : tie.Need-returns-2
 returns-2 c = c .same-from .ensures ∙ sym (c .before .same-words .ensures .1)
 

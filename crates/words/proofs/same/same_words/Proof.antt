@@ -17,39 +17,30 @@ Inv-loop a b i₀ i = (i ≤ length a) × (same a b ≡ same (drop i a) (drop i 
 abbrev μ-loop : tie.MeasureT-loop
 μ-loop a b i₀ i = length a - i
 
--- src/same.rt:14:5
 loop-holds : tie.Need-loop-holds Inv-loop μ-loop
 loop-holds c = (omega arith, refl)
 
--- src/same.rt:14:16
 sub-loop : tie.Need-sub-loop Inv-loop μ-loop
 sub-loop c = search needs
 
--- src/same.rt:15:12
 whole-word-requires : tie.Need-whole-word-requires Inv-loop μ-loop
 whole-word-requires c κs = search needs
 
--- src/same.rt:15:30
 whole-word-requires-2 : tie.Need-whole-word-requires-2 Inv-loop μ-loop
 whole-word-requires-2 c κs = search needs
 
--- src/same.rt:16:13
 returns : tie.Need-returns Inv-loop μ-loop
 returns c = c .before .before .before .before .loop .inv
 
--- src/same.rt:18:9
 add-i : tie.Need-add-i Inv-loop μ-loop
 add-i c = search needs
 
--- src/same.rt:14:5
 loop-less : tie.Need-loop-less Inv-loop μ-loop
 loop-less c = search needs
 
--- src/same.rt:14:5
 loop-again : tie.Need-loop-again Inv-loop μ-loop
 loop-again c = (omega arith, c .before .before .before .before .loop .inv .1 ∙ same-word (c .before .before .before .before .before .before .before .args .a .now) (c .before .before .before .before .before .before .before .args .b .now) (c .before .before .before .before .loop .i) (λ k. c .before .before .before .before .before .before .shared-slice-known .given k .fits) (λ k. c .before .before .before .before .before .shared-slice-known2 .given k .fits) (omega arith) (omega arith) (sym (c .before .before .whole-word .ensures) ∙ c .if1 .left ∙ c .before .whole-word2 .ensures))
 
--- src/same.rt:9:1
 returns-2 : tie.Need-returns-2 Inv-loop μ-loop
 returns-2 c = c .before .loop .inv
 

@@ -9,11 +9,9 @@ use Rattle.words.proofs.store.has_room.Tie as tie
 use Rattle.words.proofs.store.has_room.Reads as reads
 use Rattle.words.proofs.store.has_room.Lts as lts
 
--- src/store.rt:15:9
 returns : tie.Need-returns
 returns c = sym (lt-leb (c .before .args .at + c .before .args .n) (c .before .args .length) (omega arith))
 
--- src/store.rt:11:1
 returns-2 : tie.Need-returns-2
 returns-2 c =
     let a = c .before .args in

@@ -12,23 +12,18 @@ use Rattle.words.proofs.store.put_bytes.Lts as lts
 use Rattle.words.proofs.store.has_room.Reads as has-room-reads
 use Rattle.words.proofs.store.store_bytes.Reads as store-bytes-reads
 
--- src/store.rt:61:8
 has-room-requires : tie.Need-has-room-requires
 has-room-requires c κs = search needs
 
--- src/store.rt:62:9
 store-bytes-requires : tie.Need-store-bytes-requires
 store-bytes-requires c κs = leb-true _ _ (sym (c .before .before .has-room .ensures) ∙ c .before .if1 .taken)
 
--- src/store.rt:63:9
 same-length : tie.Need-same-length
 same-length c = search needs
 
--- src/store.rt:63:9
 returns : tie.Need-returns
 returns c = room _ _ _ _ refl (leb-true _ _ (sym (c .before .before .before .before .before .has-room .ensures) ∙ c .before .before .before .before .if1 .taken)) (c .before .before .store-bytes .ensures)
 
--- src/store.rt:58:1
 returns-2 : tie.Need-returns-2
 returns-2 c = no-room _ _ _ _ refl (leb-false _ _ (sym (c .before .has-room .ensures) ∙ c .if1 .left))
 

@@ -13,23 +13,18 @@ use Rattle.words.proofs.store.put_le.Lts as lts
 use Rattle.words.proofs.store.has_room.Reads as has-room-reads
 use Rattle.words.proofs.store.store_le.Reads as store-le-reads
 
--- src/store.rt:38:8
 has-room-requires : tie.Need-has-room-requires
 has-room-requires c κs = search needs
 
--- src/store.rt:39:9
 store-le-requires : tie.Need-store-le-requires
 store-le-requires c κs = leb-true _ _ (sym (c .before .before .has-room .ensures) ∙ c .before .if1 .taken)
 
--- src/store.rt:40:9
 same-length : tie.Need-same-length
 same-length c = search needs
 
--- src/store.rt:40:9
 returns : tie.Need-returns
 returns c = room _ _ _ _ (length-bytes _ _) (leb-true _ _ (sym (c .before .before .before .before .before .has-room .ensures) ∙ c .before .before .before .before .if1 .taken)) (c .before .before .store-le .ensures)
 
--- src/store.rt:35:1
 returns-2 : tie.Need-returns-2
 returns-2 c = no-room _ _ _ _ (length-bytes _ _) (leb-false _ _ (sym (c .before .has-room .ensures) ∙ c .if1 .left))
 

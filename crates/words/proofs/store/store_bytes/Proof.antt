@@ -17,44 +17,35 @@ Inv-loop d₀ at s i₀ d i = (i ≤ length s) × (length d ≡ length d₀) × 
 abbrev μ-loop : tie.MeasureT-loop
 μ-loop d₀ at s i₀ d i = length s - i
 
--- src/store.rt:43:5
 loop-holds : tie.Need-loop-holds Inv-loop μ-loop
 loop-holds c =
     let p : c .args .at + 0 ≡ c .args .at = omega arith in
     (omega arith, refl, rw p)
 
--- src/store.rt:44:21
 shared-slice-read-d : tie.Need-shared-slice-read-d Inv-loop μ-loop
 shared-slice-read-d c = search needs
 
--- src/store.rt:44:11
 add-d : tie.Need-add-d Inv-loop μ-loop
 add-d c = search needs
 
--- src/store.rt:44:9
 slice-write-d : tie.Need-slice-write-d Inv-loop μ-loop
 slice-write-d c = search needs
 
--- src/store.rt:45:9
 add-i : tie.Need-add-i Inv-loop μ-loop
 add-i c = search needs
 
--- src/store.rt:43:5
 loop-less : tie.Need-loop-less Inv-loop μ-loop
 loop-less c = search needs
 
--- src/store.rt:43:5
 loop-again : tie.Need-loop-again Inv-loop μ-loop
 loop-again c =
     let l = c .before .before .loop in
     let step = copy-more (l .d) (c .before .before .before .args .s .now) {j = c .before .before .before .args .at + l .i} {j′ = c .before .before .before .args .at + (l .i + 1)} {f = l .i} {f′ = l .i + 1} (omega arith) (omega arith) (omega arith) in
     (omega arith, simp length-set (l .inv .1), sym step ∙ l .inv .2)
 
--- src/store.rt:38:1
 same-length : tie.Need-same-length Inv-loop μ-loop
 same-length c = search needs
 
--- src/store.rt:38:1
 returns : tie.Need-returns Inv-loop μ-loop
 returns c =
     let l = c .before .loop in

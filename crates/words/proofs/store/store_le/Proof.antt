@@ -18,45 +18,36 @@ Inv-loop d₀ at n v rest₀ i₀ d rest i = (i ≤ n) × (length d ≡ length d
 abbrev μ-loop : tie.MeasureT-loop
 μ-loop d₀ at n v rest₀ i₀ d rest i = n - i
 
--- src/store.rt:16:5
 loop-holds : tie.Need-loop-holds Inv-loop μ-loop
 loop-holds c =
     let p : c .args .at + 0 ≡ c .args .at = omega arith in
     let q : c .args .n - 0 ≡ c .args .n = omega arith in
     (omega arith, refl, rw (p, q))
 
--- src/store.rt:17:21
 cast-d : tie.Need-cast-d Inv-loop μ-loop
 cast-d c = search needs
 
--- src/store.rt:17:11
 add-d : tie.Need-add-d Inv-loop μ-loop
 add-d c = search needs
 
--- src/store.rt:17:9
 slice-write-d : tie.Need-slice-write-d Inv-loop μ-loop
 slice-write-d c = search needs
 
--- src/store.rt:19:9
 add-i : tie.Need-add-i Inv-loop μ-loop
 add-i c = search needs
 
--- src/store.rt:16:5
 loop-less : tie.Need-loop-less Inv-loop μ-loop
 loop-less c = search needs
 
--- src/store.rt:16:5
 loop-again : tie.Need-loop-again Inv-loop μ-loop
 loop-again c =
     let l = c .before .loop in
     let step = sets-more (l .d) {j = c .before .before .args .at + l .i} {j′ = c .before .before .args .at + (l .i + 1)} {k = c .before .before .args .n - (l .i + 1)} {k′ = c .before .before .args .n - l .i} (l .rest) (omega arith) (omega arith) in
     (omega arith, simp length-set (l .inv .1), sym step ∙ l .inv .2)
 
--- src/store.rt:10:1
 same-length : tie.Need-same-length Inv-loop μ-loop
 same-length c = search needs
 
--- src/store.rt:10:1
 returns : tie.Need-returns Inv-loop μ-loop
 unfolding bytes
 returns c =

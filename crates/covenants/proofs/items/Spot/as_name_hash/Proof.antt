@@ -8,51 +8,39 @@ use Rattle.covenants.specs.Paper.{spotPaper, shownHash}
 use Rattle.covenants.proofs.items.Spot.as_name_hash.Statement.{statement}
 use Rattle.covenants.proofs.items.Spot.as_name_hash.Tie as tie
 
--- src/items.rt:118:26
 enum-known-self : tie.Need-enum-known-self
 enum-known-self c = search needs
 
--- src/items.rt:120:21
 no-hash-requires : tie.Need-no-hash-requires
 no-hash-requires c κs = search needs
 
--- src/items.rt:120:21
 returns : tie.Need-returns
 returns c = c .no-hash .ensures ∙ sym (ap shownHash (ap (λ i. wide 32 (c .before .before .before .before .before .before .args .s .now) (spotPaper i)) (c .before .before .before .self .given .1) ∙ wide-other _ _ _ _ (c .before .if1 .taken)))
 
--- src/items.rt:123:21
 read-array-requires : tie.Need-read-array-requires
 read-array-requires c κs = search needs
 
--- src/items.rt:127:29
 enum-told : tie.Need-enum-told
 enum-told c = search needs
 
--- src/items.rt:133:42
 enum-told-2 : tie.Need-enum-told-2
 enum-told-2 c = search needs
 
--- src/items.rt:133:42
 no-hash-requires-2 : tie.Need-no-hash-requires-2
 no-hash-requires-2 c κs = search needs
 
--- src/items.rt:136:29
 enum-told-3 : tie.Need-enum-told-3
 enum-told-3 c = search needs
 
--- src/items.rt:136:29
 no-hash-requires-3 : tie.Need-no-hash-requires-3
 no-hash-requires-3 c κs = search needs
 
--- src/items.rt:114:5
 returns-2 : tie.Need-returns-2
 returns-2 c = sym (ap shownHash (ap (λ i. wide 32 (c .before .before .before .before .before .before .before .before .before .args .s .now) (spotPaper i)) (c .before .before .before .before .before .before .self .given .1) ∙ wide-read _ _ _ _ (c .before .before .before .before .if1 .left) (omega arith) (array-found 32 (c .before .before .before .read-array .result) _ (c .before .before .before .read-array .ensures) (c .before .enum-told .given .1) refl)))
 
--- src/items.rt:114:5
 returns-3 : tie.Need-returns-3
 returns-3 c = c .no-hash2 .ensures ∙ sym (ap shownHash (ap (λ i. wide 32 (c .before .before .before .before .before .before .before .before .before .args .s .now) (spotPaper i)) (c .before .before .before .before .before .before .self .given .1) ∙ wide-none _ _ _ _ (c .before .before .before .before .if1 .left) (omega arith) (array-refused 32 (c .before .before .before .read-array .result) _ (c .before .before .before .read-array .ensures) (c .before .enum-told2 .given .1) refl)))
 
--- src/items.rt:114:5
 returns-4 : tie.Need-returns-4
 unfolding wide
 returns-4 c = c .no-hash3 .ensures ∙ sym (ap (λ i. shownHash (wide 32 (c .before .before .before .before .args .s .now) (spotPaper i))) (c .before .enum-told3 .given .1))

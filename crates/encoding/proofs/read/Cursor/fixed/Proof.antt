@@ -13,30 +13,24 @@ use Rattle.encoding.proofs.read.Cursor.fixed.Lts as lts
 use Rattle.encoding.proofs.read.Cursor.read_slice.Reads as read-slice-reads
 use Rattle.encoding.proofs.read.le_at.Reads as le-at-reads
 
--- src/read.rt:171:15
 read-slice-requires : tie.Need-read-slice-requires
 read-slice-requires c κs = search needs
 
--- src/read.rt:173:17
 enum-known-start : tie.Need-enum-known-start
 enum-known-start c = search needs
 
--- src/read.rt:176:33
 le-at-requires : tie.Need-le-at-requires
 le-at-requires c κs =
     let p = slice.read _ _ _ (omega arith) (told spanPaper (c .before .before .before .read-slice .ensures) (c .before .start .given .1)) in
     (omega arith, omega (arith, p .start, p .fits))
 
--- src/read.rt:177:31
 enum-known-stop : tie.Need-enum-known-stop
 enum-known-stop c = search needs
 
--- src/read.rt:167:5
 returns : tie.Need-returns
 unfolding bytesAt fixedAt
 returns c = rw (← c .before .before .before .before .read-slice .ensures, c .before .before .start .given .1, c .le-at .ensures)
 
--- src/read.rt:167:5
 returns-2 : tie.Need-returns-2
 unfolding bytesAt fixedAt
 returns-2 c = rw (← c .before .before .before .read-slice .ensures, c .before .stop .given .1)

@@ -16,51 +16,40 @@ use Rattle.encoding.proofs.read.Cursor.read_array.Lts as lts
 use Rattle.encoding.proofs.read.Cursor.read_slice.Reads as read-slice-reads
 use Rattle.words.proofs.store.put_bytes.Reads as put-bytes-reads
 
--- src/read.rt:292:15
 read-slice-requires : tie.Need-read-slice-requires
 read-slice-requires c κs = search needs
 
--- src/read.rt:293:30
 enum-known-start : tie.Need-enum-known-start
 enum-known-start c = search needs
 
--- src/read.rt:294:41
 slice-aggregate-put-bytes : tie.Need-slice-aggregate-put-bytes
 slice-aggregate-put-bytes c = search needs
 
--- src/read.rt:294:66
 add-put-bytes : tie.Need-add-put-bytes
 add-put-bytes c =
     let p = slice.read _ _ _ (omega arith) (told spanPaper (c .before .before .before .before .read-slice .ensures) (c .before .before .start .given .1)) in
     omega (arith, p .start, p .size, p .fits)
 
--- src/read.rt:294:56
 sub-put-bytes : tie.Need-sub-put-bytes
 sub-put-bytes c = search needs
 
--- src/read.rt:294:56
 part-put-bytes-start : tie.Need-part-put-bytes-start
 part-put-bytes-start c = search needs
 
--- src/read.rt:294:56
 part-put-bytes-end : tie.Need-part-put-bytes-end
 part-put-bytes-end c =
     let p = slice.read _ _ _ (omega arith) (told spanPaper (c .before .before .before .before .read-slice .ensures) (c .before .before .start .given .1)) in
     omega (arith, p .start, p .size, p .fits)
 
--- src/read.rt:294:17
 put-bytes-requires : tie.Need-put-bytes-requires
 put-bytes-requires c κs = search needs
 
--- src/read.rt:300:31
 enum-known-stop : tie.Need-enum-known-stop
 enum-known-stop c = search needs
 
--- src/read.rt:288:5
 returns : tie.Need-returns
 returns c = array-read 32 _ _ _ (omega arith) (told spanPaper (c .before .before .before .before .before .before .before .read-slice .ensures) (c .before .before .before .before .before .start .given .1)) refl (c .before .put-bytes .ensures .1)
 
--- src/read.rt:288:5
 returns-2 : tie.Need-returns-2
 unfolding bytesAt
 returns-2 c = rw (← c .before .before .before .read-slice .ensures, c .before .stop .given .1)

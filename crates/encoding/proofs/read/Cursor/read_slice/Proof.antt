@@ -7,42 +7,41 @@ use Rattle.encoding.proofs.read.Cursor.read_slice.Tie as tie
 use Rattle.encoding.proofs.read.Cursor.read_slice.Reads as reads
 use Rattle.encoding.proofs.read.Cursor.read_slice.Lts as lts
 use Rattle.encoding.proofs.read.beyond.Reads as beyond-reads
+use Rattle.encoding.proofs.read.cut.Reads as cut-reads
+use Rattle.encoding.proofs.read.too_long.Reads as too-long-reads
 
--- src/read.rt:136:38
 beyond-requires : tie.Need-beyond-requires
 beyond-requires c κs = search needs
 
--- src/read.rt:136:13
 returns : tie.Need-returns
 returns c = rw (c .beyond .ensures .0, c .beyond .ensures .1) (sym (slice.beyond _ _ _ (c .before .if1 .taken)))
 
--- src/read.rt:138:20
 sub-left : tie.Need-sub-left
 sub-left c = search needs
 
--- src/read.rt:144:31
 add-t10 : tie.Need-add-t10
 add-t10 c = search needs
 
--- src/read.rt:140:13
 returns-2 : tie.Need-returns-2
 returns-2 c = sym (slice.within _ _ _ (omega arith) (omega arith))
 
--- src/read.rt:148:22
 sub-if3 : tie.Need-sub-if3
 sub-if3 c = search needs
 
--- src/read.rt:152:29
-sub-t12 : tie.Need-sub-t12
-sub-t12 c = search needs
+sub-cut : tie.Need-sub-cut
+sub-cut c = search needs
 
--- src/read.rt:149:13
+cut-requires : tie.Need-cut-requires
+cut-requires c κs = search needs
+
 returns-3 : tie.Need-returns-3
-returns-3 c = sym (slice.cut _ _ _ (omega arith) (omega arith) (omega arith) (omega arith))
+returns-3 c = rw (c .cut .ensures .0, c .cut .ensures .1) (sym (slice.cut _ _ _ (omega arith) (omega arith) (omega arith) (omega arith)))
 
--- src/read.rt:131:5
+too-long-requires : tie.Need-too-long-requires
+too-long-requires c κs = search needs
+
 returns-4 : tie.Need-returns-4
-returns-4 c = sym (slice.past _ _ _ (omega arith) (omega arith))
+returns-4 c = rw (c .too-long .ensures .0, c .too-long .ensures .1) (sym (slice.past _ _ _ (omega arith) (omega arith)))
 
 pub read-slice-spec : {M : Type 1} → statement M
 read-slice-spec =
@@ -54,6 +53,8 @@ read-slice-spec =
     add-t10
     returns-2
     sub-if3
-    sub-t12
+    sub-cut
+    cut-requires
     returns-3
+    too-long-requires
     returns-4)

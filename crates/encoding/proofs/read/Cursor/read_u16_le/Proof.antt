@@ -10,27 +10,21 @@ use Rattle.encoding.proofs.read.Cursor.read_u16_le.Reads as reads
 use Rattle.encoding.proofs.read.Cursor.read_u16_le.Lts as lts
 use Rattle.encoding.proofs.read.Cursor.fixed.Reads as fixed-reads
 
--- src/read.rt:193:15
 fixed-requires : tie.Need-fixed-requires
 fixed-requires c κs = search needs
 
--- src/read.rt:194:28
 enum-known-v : tie.Need-enum-known-v
 enum-known-v c = search needs
 
--- src/read.rt:194:55
 cast-t8 : tie.Need-cast-t8
 cast-t8 c = omega (arith, fixed-under _ _ _ (λ k. c .before .before .before .before .shared-slice-known .given k .fits) (told u64Paper (c .before .before .before .fixed .ensures) (c .before .v .given .1)))
 
--- src/read.rt:195:30
 enum-known-stop : tie.Need-enum-known-stop
 enum-known-stop c = search needs
 
--- src/read.rt:190:5
 returns : tie.Need-returns
 returns c = rw (← c .before .before .before .fixed .ensures, c .before .v .given .1)
 
--- src/read.rt:190:5
 returns-2 : tie.Need-returns-2
 returns-2 c = rw (← c .before .before .before .fixed .ensures, c .before .stop .given .1)
 

@@ -9,28 +9,22 @@ use Rattle.encoding.proofs.read.Cursor.read_varbytes.Lts as lts
 use Rattle.encoding.proofs.read.Cursor.read_bounded.Reads as read-bounded-reads
 use Rattle.encoding.proofs.read.Cursor.read_compact_usize.Reads as read-compact-usize-reads
 
--- src/read.rt:281:15
 read-compact-usize-requires : tie.Need-read-compact-usize-requires
 read-compact-usize-requires c κs = search needs
 
--- src/read.rt:282:29
 enum-known-n : tie.Need-enum-known-n
 enum-known-n c = search needs
 
--- src/read.rt:282:41
 read-bounded-requires : tie.Need-read-bounded-requires
 read-bounded-requires c κs = search needs
 
--- src/read.rt:283:31
 enum-known-stop : tie.Need-enum-known-stop
 enum-known-stop c = search needs
 
--- src/read.rt:278:5
 returns : tie.Need-returns
 unfolding varbytesAt
 returns c = rw (← c .before .before .before .before .read-compact-usize .ensures, c .before .before .n .given .1) (c .read-bounded .ensures)
 
--- src/read.rt:278:5
 returns-2 : tie.Need-returns-2
 unfolding varbytesAt
 returns-2 c = rw (← c .before .before .before .read-compact-usize .ensures, c .before .stop .given .1)

@@ -7,16 +7,13 @@ use Rattle.encoding.proofs.read.Cursor.remaining.Tie as tie
 use Rattle.encoding.proofs.read.Cursor.remaining.Reads as reads
 use Rattle.encoding.proofs.read.Cursor.remaining.Lts as lts
 
--- src/read.rt:125:13
 returns : tie.Need-returns
 unfolding remainingAt
 returns c = omega arith
 
--- src/read.rt:127:9
 sub-result : tie.Need-sub-result
 sub-result c = search needs
 
--- src/read.rt:120:5
 returns-2 : tie.Need-returns-2
 unfolding remainingAt
 returns-2 c = omega arith

@@ -1,0 +1,5 @@
+pub mod Parts
+pub mod Comparing
+pub mod Judging
+pub mod Same
+pub mod One

@@ -1,0 +1,4 @@
+pub mod Checks
+pub mod Items
+pub mod Paper
+pub mod Workers

@@ -1,0 +1,5 @@
+pub mod Written
+pub mod Read
+pub mod Paper
+pub mod Theorems
+pub mod Workers

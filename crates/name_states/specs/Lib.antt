@@ -1,4 +1,0 @@
-pub mod Written
-pub mod Read
-pub mod Paper
-pub mod Theorems

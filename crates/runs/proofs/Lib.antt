@@ -1,0 +1,7 @@
+pub mod Steps
+pub mod Running
+pub mod Covenants
+pub mod OneReading
+pub mod Theorems
+pub mod Same
+pub mod One

@@ -1,0 +1,5 @@
+pub mod Run
+pub mod Covenants
+pub mod Paper
+pub mod OneReading
+pub mod Theorems
