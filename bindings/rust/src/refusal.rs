@@ -88,13 +88,13 @@ table! {
     17 StartHeightMismatch { input: usize } "the start heights differ";
     18 BlindCommitmentMismatch { input: usize } "the bid's commitment is not the one of value and nonce";
     19 BidValueInflation { input: usize } "the revealed value is above the coin's";
-    20 ClaimCannotRedeem { input: usize } "a Claim is not redeemed";
+    20 ClaimCannotRedeem { input: usize } "a Claim may not be redeemed";
     21 AddressMismatch { input: usize } "coin and partner differ in address";
     22 LockedValueMismatch { input: usize } "coin and partner differ in value";
     23 TransferDestinationMismatch { input: usize } "a Finalize goes to another address than the Transfer named";
-    24 RevokedCoinSpent { input: usize } "a Revoke is not spent";
-    25 UnknownCovenantCreatesName { input: usize, to: u8 } "an unknown kind does not make a name's covenant";
-    26 UnpairedLinkedOutput { output: usize, kind: u8 } "a linked output past the inputs";
+    24 RevokedCoinSpent { input: usize } "a revoked name's coin may not be spent";
+    25 UnknownCovenantCreatesName { input: usize, to: u8 } "a coin of an unknown kind may not have a partner of kind 1 to 11";
+    26 UnpairedLinkedOutput { output: usize, kind: u8 } "an output of kind 4 to 11 may not stand past the inputs";
     27 SheetField { side: u8, offset: usize } "a fixed field of a sheet is wrong, and the byte where it begins";
     28 SheetTooLong { side: u8, length: usize } "a sheet above its size";
     29 NoRoom { needed: usize } "the destination is shorter than the bytes to be written";
