@@ -19,7 +19,7 @@ macro_rules! table {
         #[derive(Clone, Copy, Debug, Eq, Hash, PartialEq)]
         pub enum Refusal {
             $(
-                #[doc = concat!("Number ", $number, ": ", $rule, ".")]
+                #[doc = concat!("Number ", $number, ". ", $rule, ".")]
                 #[allow(missing_docs)]
                 $name { $($part: $kind),* },
             )*
@@ -37,6 +37,13 @@ macro_rules! table {
             pub const fn name(&self) -> &'static str {
                 match self {
                     $(Self::$name { .. } => stringify!($name),)*
+                }
+            }
+
+            /// What it says, in the words of docs/REFUSALS.md.
+            pub const fn rule(&self) -> &'static str {
+                match self {
+                    $(Self::$name { .. } => $rule,)*
                 }
             }
 
@@ -69,36 +76,36 @@ macro_rules! table {
 }
 
 table! {
-    1 UnexpectedEnd { offset: usize, needed: usize } "a read is cut off: where it begins, and how many bytes are missing";
-    2 LengthExceedsBound { actual: usize, maximum: usize } "a length is above its maximum";
-    3 TrailingBytes { remaining: usize } "bytes are left where none may be";
-    4 InvalidValue { width: u8 } "a compact size of 16, 32 or 64 bits in a longer form than it needs";
-    5 TooLarge { actual: usize, maximum: usize } "more bytes or items than are allowed";
-    6 InvalidName {} "not a name";
+    1 UnexpectedEnd { offset: usize, needed: usize } "A fixed read or slice is cut off: where it begins, and how many bytes are missing. A cursor beyond its slice: its position, and how far beyond it is";
+    2 LengthExceedsBound { actual: usize, maximum: usize } "A length is above its maximum; or a slice's end would pass 2^64 - 1, with actual 2^64 - 1 and the remaining length as maximum";
+    3 TrailingBytes { remaining: usize } "Bytes are left where none may be";
+    4 InvalidValue { width: u8 } "A compact size in a longer form than it needs: 16, 32 or 64 bits";
+    5 TooLarge { actual: usize, maximum: usize } "More bytes or items than a covenant may have, or than its allowance; a record over 668 bytes; a name over 63 or a resource over 512 bytes to be written";
+    6 InvalidName {} "The bytes are not a name";
     7 InvalidNameState { reason: u8 } "1 name over 63, 2 resource over 512, 3 unknown bits, 4 owner index, 5 renewal count, 6 safe integer";
-    8 NonCanonicalNameState {} "the writer would not give the same bytes";
-    9 NameStateHashMismatch {} "the key is not the name's hash";
-    10 CoinbaseRequiresIssuanceVerifier {} "the first input is null";
-    11 InputCountMismatch { transaction: usize, coins: usize } "inputs and coins differ in number";
-    12 CoinOutpointMismatch { input: usize } "a coin is not the one that the input names";
-    13 MissingLinkedOutput { input: usize, kind: u8 } "the spent kind needs a partner";
-    14 InvalidTransition { input: usize, from: u8, to: u8 } "the partner's kind does not follow the spent one";
-    15 MalformedCovenant { input: usize, field: u8 } "an item is absent or of another width: 1 spent name, 2 created name, 3 spent start, 4 created start, 5 reveal nonce, 6 bid commitment, 7 transfer version, 8 transfer hash";
-    16 NameHashMismatch { input: usize } "the names differ";
-    17 StartHeightMismatch { input: usize } "the start heights differ";
-    18 BlindCommitmentMismatch { input: usize } "the bid's commitment is not the one of value and nonce";
-    19 BidValueInflation { input: usize } "the revealed value is above the coin's";
-    20 ClaimCannotRedeem { input: usize } "a Claim may not be redeemed";
-    21 AddressMismatch { input: usize } "coin and partner differ in address";
-    22 LockedValueMismatch { input: usize } "coin and partner differ in value";
-    23 TransferDestinationMismatch { input: usize } "a Finalize goes to another address than the Transfer named";
-    24 RevokedCoinSpent { input: usize } "a revoked name's coin may not be spent";
-    25 UnknownCovenantCreatesName { input: usize, to: u8 } "a coin of an unknown kind may not have a partner of kind 1 to 11";
-    26 UnpairedLinkedOutput { output: usize, kind: u8 } "an output of kind 4 to 11 may not stand past the inputs";
-    27 SheetField { side: u8, offset: usize } "a fixed field of a sheet is wrong, and the byte where it begins";
-    28 SheetTooLong { side: u8, length: usize } "a sheet above its size";
-    29 NoRoom { needed: usize } "the destination is shorter than the bytes to be written";
-    30 BadItem { item: usize } "an item of a directory that lies outside its source";
+    8 NonCanonicalNameState {} "The writer would not give the same bytes";
+    9 NameStateHashMismatch {} "The key is not the name's hash";
+    10 CoinbaseRequiresIssuanceVerifier {} "The first input is null";
+    11 InputCountMismatch { transaction: usize, coins: usize } "Inputs and coins differ in number";
+    12 CoinOutpointMismatch { input: usize } "A coin is not the one the input names; both outpoints stand beside the refusal in the verifier's answer";
+    13 MissingLinkedOutput { input: usize, kind: u8 } "The spent kind needs a partner";
+    14 InvalidTransition { input: usize, from: u8, to: u8 } "The partner's kind does not follow the spent one";
+    15 MalformedCovenant { input: usize, field: u8 } "An item is absent or of another width: 1 spent name, 2 created name, 3 spent start, 4 created start, 5 reveal nonce, 6 bid commitment, 7 transfer version, 8 transfer hash";
+    16 NameHashMismatch { input: usize } "Items 0 differ";
+    17 StartHeightMismatch { input: usize } "Items 1 differ";
+    18 BlindCommitmentMismatch { input: usize } "The bid's commitment is not the one of value and nonce";
+    19 BidValueInflation { input: usize } "The revealed value is above the coin's";
+    20 ClaimCannotRedeem { input: usize } "A Claim may not be redeemed";
+    21 AddressMismatch { input: usize } "Coin and partner differ in address";
+    22 LockedValueMismatch { input: usize } "Coin and partner differ in value";
+    23 TransferDestinationMismatch { input: usize } "A Finalize goes to another address than the Transfer named";
+    24 RevokedCoinSpent { input: usize } "A revoked name's coin may not be spent";
+    25 UnknownCovenantCreatesName { input: usize, to: u8 } "A coin of an unknown kind may not have a partner of kind 1 to 11";
+    26 UnpairedLinkedOutput { output: usize, kind: u8 } "An output of kind 4 to 11 may not stand past the inputs";
+    27 SheetField { side: u8, offset: usize } "A fixed field of a sheet is wrong, and the byte where it begins";
+    28 SheetTooLong { side: u8, length: usize } "A sheet is above its size";
+    29 NoRoom { needed: usize } "All other checks passed, and the destination is shorter than the bytes to be written";
+    30 BadItem { item: usize } "An item of a directory or table lies outside its source";
 }
 
 impl Refusal {
@@ -110,7 +117,12 @@ impl Refusal {
 
 impl fmt::Display for Refusal {
     fn fmt(&self, formatter: &mut fmt::Formatter<'_>) -> fmt::Result {
-        write!(formatter, "refused {}, {self:?}", self.number())
+        write!(
+            formatter,
+            "refused {}, {self:?}: {}",
+            self.number(),
+            self.rule()
+        )
     }
 }
 

@@ -123,3 +123,23 @@ fn each_number_has_a_row_that_gives_it() {
         );
     }
 }
+
+/// The rule of a number, from the page's first table: the fourth cell of its row.
+fn rule_on_the_page(number: u8) -> &'static str {
+    let row = PAGE
+        .lines()
+        .find(|line| line.starts_with(&format!("| {number} | `")))
+        .expect("a row of the number");
+    row.split('|').nth(4).expect("a rule").trim()
+}
+
+#[test]
+fn each_refusal_prints_its_number_and_its_rule() {
+    for number in 1..=30 {
+        let refusal = Refusal::from_parts(number, [0; 3]).expect("a row of the table");
+        let rule = rule_on_the_page(number);
+        assert_eq!(refusal.rule(), rule);
+        let told = format!("refused {number}, {refusal:?}: {rule}");
+        assert_eq!(refusal.to_string(), told);
+    }
+}
