@@ -4,6 +4,11 @@
  * Every entry is total, makes no allocation and no system call, keeps nothing between calls, and writes only where its comment says. The
  * caller sees to it that each pointer leads to as many bytes or numbers as stated, that nothing else writes them during the call, and
  * that what is written does not lie over what is read. No pointer may be null, not even to no bytes.
+ *
+ * A destination has a length of its own, and a refused write changes no byte of it. An array of a fixed length that an
+ * entry fills (the 32 bytes of a hash, the 1,000 starts and lengths of a directory) is no destination but a part of the
+ * answer, for which C has no other place: it is filled on every call, with zeros where the answer is a refusal, as
+ * every unused part of an answer is.
  */
 #ifndef TURGAMYSK_H
 #define TURGAMYSK_H
@@ -90,7 +95,7 @@ typedef struct {
 
 /*
  * The state of a name under its key `name_hash`. The name is the first `name_length` bytes of `name`, the resource the first `resource_length` of
- * `resource_data`; what stands behind them is not looked at. A length may be any number: bytes past the array count as zeros, and the writer refuses it.
+ * `resource_data`; what stands after them is not looked at. A length may be any number: bytes past the array count as zeros, and the writer refuses it.
  */
 typedef struct {
     uint8_t name_hash[32];
