@@ -211,7 +211,7 @@ typedef struct {
     turgamysk_outpoint outpoint;
 } turgamysk_outpoint_answer;
 
-/* How many of the `length` bytes stand behind `position`. */
+/* How many of the `length` bytes stand after `position`. */
 size_t turgamysk_remaining(const uint8_t *source, size_t length, size_t position);
 
 /* The number of 1, 2, 4 or 8 bytes, the lowest first, at `position` of the `length` bytes. */
@@ -232,7 +232,7 @@ turgamysk_span_answer turgamysk_read_varbytes(const uint8_t *source, size_t leng
 /* The next 32 bytes, into the 32 bytes at `array`: zeros where they are refused. */
 turgamysk_moved_answer turgamysk_read_array(const uint8_t *source, size_t length, size_t position, uint8_t *array);
 
-/* Whether no bytes stand behind `position`. */
+/* Whether no bytes stand after `position`. */
 turgamysk_moved_answer turgamysk_finish(const uint8_t *source, size_t length, size_t position);
 
 /* `value` in 1, 2, 4 or 8 bytes, the lowest first, into the `dest_length` bytes at `dest` from `at` on: all of it, or nothing. */
@@ -241,7 +241,7 @@ turgamysk_write_answer turgamysk_put_u16_le(uint8_t *dest, size_t dest_length, s
 turgamysk_write_answer turgamysk_put_u32_le(uint8_t *dest, size_t dest_length, size_t at, uint32_t value);
 turgamysk_write_answer turgamysk_put_u64_le(uint8_t *dest, size_t dest_length, size_t at, uint64_t value);
 
-/* The same for `length` bytes, for a compact size in its shortest form, and for bytes behind their length. */
+/* The same for `length` bytes, for a compact size in its shortest form, and for bytes after their length. */
 turgamysk_write_answer turgamysk_put_bytes(uint8_t *dest, size_t dest_length, size_t at, const uint8_t *value, size_t length);
 turgamysk_write_answer turgamysk_put_compact_size(uint8_t *dest, size_t dest_length, size_t at, uint64_t value);
 turgamysk_write_answer turgamysk_put_varbytes(uint8_t *dest, size_t dest_length, size_t at, const uint8_t *value, size_t length);
@@ -330,7 +330,7 @@ turgamysk_view_answer turgamysk_view_item(const uint8_t *tx, size_t tx_length, c
 /* ---- runs, items and kinds (crates/capi/src/items.rt) */
 
 /*
- * A covenant of a run (`number` 0), and then `position` is behind it; or the end: no bytes are left (`ended`), or the refusal as above.
+ * A covenant of a run (`number` 0), and then `position` is after it; or the end: no bytes are left (`ended`), or the refusal as above.
  * `covenants` is how many there were up to here.
  */
 typedef struct {
