@@ -1,7 +1,7 @@
 /*
- * Where answers are put: an answer of more than 16 bytes goes to memory that the caller lends unseen (x86-64, System V). Each entry is declared a
- * second time here with that argument in the open, so that the answer stands between guard pages too: an archive whose answers are larger than the
- * header's writes past them.
+ * Where answers are put: an answer of more than 16 bytes goes to memory that the caller lends unseen (x86-64, System
+ * V). Each entry is declared a second time here with that argument in the open, so that the answer stands between guard
+ * pages too: an archive whose answers are larger than the header's writes past them.
  */
 #include "ground.h"
 
@@ -21,8 +21,8 @@ PLACED(read_compact_usize, turgamysk_number_answer, bytes, size_t, size_t, size_
 PLACED(read_slice, turgamysk_span_answer, bytes, size_t, size_t, size_t);
 PLACED(read_bounded, turgamysk_span_answer, bytes, size_t, size_t, size_t, size_t);
 PLACED(read_varbytes, turgamysk_span_answer, bytes, size_t, size_t, size_t);
-PLACED(read_array, turgamysk_moved_answer, bytes, size_t, size_t, uint8_t *);
-PLACED(finish, turgamysk_moved_answer, bytes, size_t, size_t);
+PLACED(read_array, turgamysk_stop, bytes, size_t, size_t, uint8_t *);
+PLACED(finish, turgamysk_stop, bytes, size_t, size_t);
 PLACED(outpoint_decode, turgamysk_outpoint_answer, bytes, size_t, size_t);
 PLACED(put_u64_le, turgamysk_write_answer, uint8_t *, size_t, size_t, uint64_t);
 PLACED(put_varbytes, turgamysk_write_answer, uint8_t *, size_t, size_t, bytes, size_t);
@@ -50,9 +50,21 @@ PLACED(sheet_input_at, turgamysk_outpoint_answer, bytes, size_t, size_t);
 PLACED(sheet_place_at, turgamysk_place_answer, bytes, size_t, size_t, uint8_t);
 PLACED(link_line, turgamysk_write_answer, bytes, size_t, bytes, size_t, uint8_t *, size_t);
 PLACED(view_item, turgamysk_view_answer, bytes, size_t, bytes, size_t, uint8_t, size_t, size_t);
-#ifdef TURGAMYSK_LINKS
 PLACED(verify_covenant_links, turgamysk_links_answer, bytes, size_t, bytes, size_t);
-#endif
+
+/* An answer that reads begins with its stop. */
+#define BEGINS_WITH_STOP(answer) _Static_assert(offsetof(answer, stop) == 0, #answer)
+
+BEGINS_WITH_STOP(turgamysk_number_answer);
+BEGINS_WITH_STOP(turgamysk_span_answer);
+BEGINS_WITH_STOP(turgamysk_outpoint_answer);
+BEGINS_WITH_STOP(turgamysk_covenant_answer);
+BEGINS_WITH_STOP(turgamysk_step_answer);
+BEGINS_WITH_STOP(turgamysk_run_answer);
+BEGINS_WITH_STOP(turgamysk_state_answer);
+BEGINS_WITH_STOP(turgamysk_sheet_answer);
+BEGINS_WITH_STOP(turgamysk_place_answer);
+BEGINS_WITH_STOP(turgamysk_links_answer);
 
 static region source_region, key_region, answer_region, destination_region, starts_region, lens_region;
 
@@ -82,7 +94,10 @@ static void *lend_place(layout where, size_t size) {
     return lend_output(&answer_region, where, size);
 }
 
-/* The entry hands back the place that it was given, and has written nothing beside it; every answer begins with a number, a yes or no, or a key. */
+/*
+ * The entry hands back the place that it was given, and has written nothing beside it; every answer begins with a
+ * number, a yes or no, or a key.
+ */
 static void check_place(entry by, const uint8_t *returned, size_t size) {
     REQUIRE(returned == lent_by(&answer_region));
     REQUIRE(untouched_from(&answer_region, size));
@@ -100,8 +115,8 @@ static void check_wire(const arguments *with) {
     CHECK(read_slice, turgamysk_span_answer, with->source, with->length, with->position, with->limit);
     CHECK(read_bounded, turgamysk_span_answer, with->source, with->length, with->position, with->limit, with->length);
     CHECK(read_varbytes, turgamysk_span_answer, with->source, with->length, with->position, with->limit);
-    CHECK(read_array, turgamysk_moved_answer, with->source, with->length, with->position, with->room);
-    CHECK(finish, turgamysk_moved_answer, with->source, with->length, with->position);
+    CHECK(read_array, turgamysk_stop, with->source, with->length, with->position, with->room);
+    CHECK(finish, turgamysk_stop, with->source, with->length, with->position);
     CHECK(outpoint_decode, turgamysk_outpoint_answer, with->source, with->length, with->position);
     CHECK(put_u64_le, turgamysk_write_answer, with->room, ROOM, with->position, with->limit);
     CHECK(put_varbytes, turgamysk_write_answer, with->room, ROOM, with->position, with->source, with->length);
@@ -141,9 +156,7 @@ static void check_sheets(const arguments *with) {
     CHECK(sheet_place_at, turgamysk_place_answer, with->source, with->length, with->position, 0);
     CHECK(link_line, turgamysk_write_answer, with->source, with->length, with->source, with->length, with->room, ROOM);
     CHECK(view_item, turgamysk_view_answer, with->source, with->length, with->source, with->length, 0, with->position, with->limit);
-#ifdef TURGAMYSK_LINKS
     CHECK(verify_covenant_links, turgamysk_links_answer, with->source, with->length, with->source, with->length);
-#endif
 }
 
 void play(test_case given) {

@@ -37,12 +37,12 @@ typedef struct {
 /* ---- one covenant at a position */
 
 static void check_covenant_answer(entry by, turgamysk_covenant_answer answer) {
-    answered(by, VERDICT(answer));
-    witness(answer.position);
+    answered(by, VERDICT(answer.stop));
+    witness(answer.stop.position);
     witness(answer.kind);
     witness(answer.count);
     witness(answer.used);
-    if (answer.number != 0) {
+    if (answer.stop.number != 0) {
         REQUIRE(answer.kind == 0 && answer.count == 0 && answer.used == 0);
         return;
     }
@@ -51,8 +51,7 @@ static void check_covenant_answer(entry by, turgamysk_covenant_answer answer) {
 }
 
 static bool same_covenant(turgamysk_covenant_answer one, turgamysk_covenant_answer other) {
-    return same_verdict(VERDICT(one), VERDICT(other)) && one.position == other.position && one.kind == other.kind && one.count == other.count &&
-           one.used == other.used;
+    return same_stop(one.stop, other.stop) && one.kind == other.kind && one.count == other.count && one.used == other.used;
 }
 
 /* The bytes used up are the covenant's size: an allowance of as many is enough, and one less is not. */
@@ -61,18 +60,18 @@ static void check_allowance(lent_bytes source, size_t position, turgamysk_covena
     REQUIRE(same_covenant(enough, accepted));
     turgamysk_covenant_answer less = turgamysk_covenant_read(source.bytes, source.length, position, accepted.used - 1);
     check_covenant_answer(ENTRY_covenant_read, less);
-    REQUIRE(less.number == 5 && less.second == accepted.used - 1);
+    REQUIRE(less.stop.number == 5 && less.stop.second == accepted.used - 1);
 }
 
-/* What stands behind the covenant does not matter to it, and of it no byte may be missing. */
+/* What stands after the covenant does not matter to it, and of it no byte may be missing. */
 static void check_cut_read(lent_bytes source, size_t position, turgamysk_covenant_answer accepted, uint8_t missing) {
-    const uint8_t *exact = lend_input(&changed_region, source.where, source.bytes, accepted.position);
-    REQUIRE(same_covenant(turgamysk_covenant_read(exact, accepted.position, position, SIZE_MAX), accepted));
-    size_t left = accepted.position - 1 - missing % accepted.used;
+    const uint8_t *exact = lend_input(&changed_region, source.where, source.bytes, accepted.stop.position);
+    REQUIRE(same_covenant(turgamysk_covenant_read(exact, accepted.stop.position, position, SIZE_MAX), accepted));
+    size_t left = accepted.stop.position - 1 - missing % accepted.used;
     const uint8_t *cut = lend_input(&changed_region, source.where, source.bytes, left);
     turgamysk_covenant_answer refused = turgamysk_covenant_read(cut, left, position, SIZE_MAX);
     check_covenant_answer(ENTRY_covenant_read, refused);
-    REQUIRE(refused.number == 1);
+    REQUIRE(refused.stop.number == 1);
 }
 
 static bool zeros_from(const size_t *numbers, size_t from) {
@@ -80,7 +79,7 @@ static bool zeros_from(const size_t *numbers, size_t from) {
     return memcmp(numbers + from, zeros, (DIRECTORY_SLOTS - from) * sizeof *zeros) == 0;
 }
 
-/* Items follow each other, each behind its length, from the covenant's start to its end. */
+/* Items follow each other, each after its length, from the covenant's start to its end. */
 static void check_directory(const size_t *starts, const size_t *lens, size_t count, size_t start, size_t end) {
     size_t position = start + 1 + turgamysk_compact_size_len(count);
     for (size_t i = 0; i < count; i++) {
@@ -92,7 +91,7 @@ static void check_directory(const size_t *starts, const size_t *lens, size_t cou
     REQUIRE(position == end);
 }
 
-/* With a directory the same is read; zeros stand behind its items, and zeros alone where nothing was read. */
+/* With a directory the same is read; zeros stand after its items, and zeros alone where nothing was read. */
 static void check_decode_from(lent_bytes source, size_t position, size_t limit, turgamysk_covenant_answer read) {
     size_t *starts = (size_t *)(void *)lend_output(&made_starts_region, source.where, DIRECTORY_SIZE);
     size_t *lens = (size_t *)(void *)lend_output(&made_lens_region, source.where, DIRECTORY_SIZE);
@@ -101,8 +100,8 @@ static void check_decode_from(lent_bytes source, size_t position, size_t limit, 
     REQUIRE(same_covenant(answer, read));
     REQUIRE(untouched_from(&made_starts_region, DIRECTORY_SIZE) && untouched_from(&made_lens_region, DIRECTORY_SIZE));
     REQUIRE(zeros_from(starts, answer.count) && zeros_from(lens, answer.count));
-    if (answer.number == 0) {
-        check_directory(starts, lens, answer.count, position, answer.position);
+    if (answer.stop.number == 0) {
+        check_directory(starts, lens, answer.count, position, answer.stop.position);
     }
 }
 
@@ -110,16 +109,16 @@ static void check_read(lent_bytes source, size_t position, size_t limit, uint8_t
     turgamysk_covenant_answer answer = turgamysk_covenant_read(source.bytes, source.length, position, limit);
     check_covenant_answer(ENTRY_covenant_read, answer);
     check_decode_from(source, position, limit, answer);
-    REQUIRE(answer.position >= position);
-    REQUIRE(answer.position <= source.length || answer.position == position);
+    REQUIRE(answer.stop.position >= position);
+    REQUIRE(answer.stop.position <= source.length || answer.stop.position == position);
     if (position > source.length) {
-        REQUIRE(same_verdict(VERDICT(answer), (verdict){1, position, position - source.length, 0}));
+        REQUIRE(same_verdict(VERDICT(answer.stop), (verdict){1, position, position - source.length, 0}));
     } else if (limit < 2) {
-        REQUIRE(same_verdict(VERDICT(answer), (verdict){5, 2, limit, 0}) && answer.position == position);
+        REQUIRE(same_verdict(VERDICT(answer.stop), (verdict){5, 2, limit, 0}) && answer.stop.position == position);
     }
-    if (answer.number == 0) {
+    if (answer.stop.number == 0) {
         REQUIRE(answer.used <= limit);
-        REQUIRE(answer.position == position + answer.used);
+        REQUIRE(answer.stop.position == position + answer.used);
         check_allowance(source, position, answer);
         check_cut_read(source, position, answer, missing);
     }
@@ -243,7 +242,7 @@ static turgamysk_covenant_answer decode_changed(lent_bytes changed) {
 static void check_changed_length(lent_bytes source, const uint8_t *payload, uint8_t missing) {
     size_t left = source.length - 1 - missing % source.length;
     lent_bytes cut = {lend_input(&changed_region, source.where, payload, left), left, source.where};
-    REQUIRE(decode_changed(cut).number == 1);
+    REQUIRE(decode_changed(cut).stop.number == 1);
     static uint8_t longer[LONGEST_PAYLOAD + 1];
     size_t length = source.length + 1;
     memcpy(longer, payload, source.length);
@@ -251,7 +250,7 @@ static void check_changed_length(lent_bytes source, const uint8_t *payload, uint
     lent_bytes extended = {lend_input(&changed_region, source.where, longer, length), length, source.where};
     turgamysk_covenant_answer refused = decode_changed(extended);
     bool within = length <= LARGEST_COVENANT;
-    REQUIRE(same_verdict(VERDICT(refused), within ? (verdict){3, 1, 0, 0} : (verdict){5, length, LARGEST_COVENANT, 0}));
+    REQUIRE(same_verdict(VERDICT(refused.stop), within ? (verdict){3, 1, 0, 0} : (verdict){5, length, LARGEST_COVENANT, 0}));
 }
 
 static directory lend_directory(lent_bytes source, const size_t *starts, const size_t *lens, size_t count) {
@@ -263,7 +262,7 @@ static directory lend_directory(lent_bytes source, const size_t *starts, const s
 static void check_accepted(directory of, turgamysk_covenant_answer answer, const uint8_t *payload, choices *choose) {
     lent_bytes source = of.source;
     uint8_t missing = choose_byte(choose);
-    REQUIRE(answer.used == source.length && answer.position == source.length);
+    REQUIRE(answer.used == source.length && answer.stop.position == source.length);
     check_directory(of.starts, of.lens, of.count, 0, source.length);
     check_items(of, choose_byte(choose) * 4u);
     const uint8_t *again = check_encode(of, answer.kind, source.length + missing % 3);
@@ -276,12 +275,12 @@ static void check_decode(lent_bytes source, const uint8_t *payload, choices *cho
     turgamysk_covenant_answer answer = decode_changed(source);
     const size_t *starts = (const void *)lent_by(&made_starts_region);
     const size_t *lens = (const void *)lent_by(&made_lens_region);
-    if (answer.number == 0) {
+    if (answer.stop.number == 0) {
         check_accepted(lend_directory(source, starts, lens, answer.count), answer, payload, choose);
     }
     turgamysk_covenant_answer read = turgamysk_covenant_read(source.bytes, source.length, 0, LARGEST_COVENANT);
-    if (answer.number == 3) {
-        REQUIRE(read.number == 0 && read.used == source.length - answer.first);
+    if (answer.stop.number == 3) {
+        REQUIRE(read.stop.number == 0 && read.used == source.length - answer.stop.first);
     } else if (source.length <= LARGEST_COVENANT) {
         REQUIRE(same_covenant(read, answer));
     }
@@ -305,7 +304,7 @@ static void check_written_items(directory of, const uint8_t *written, size_t len
     size_t *starts = (size_t *)(void *)lend_output(&made_starts_region, of.source.where, DIRECTORY_SIZE);
     size_t *lens = (size_t *)(void *)lend_output(&made_lens_region, of.source.where, DIRECTORY_SIZE);
     turgamysk_covenant_answer answer = turgamysk_covenant_decode(written, length, starts, lens);
-    REQUIRE(answer.number == 0 && answer.kind == kind && answer.count == of.count);
+    REQUIRE(answer.stop.number == 0 && answer.kind == kind && answer.count == of.count);
     for (size_t i = 0; i < of.count; i++) {
         REQUIRE(lens[i] == of.lens[i]);
         REQUIRE(memcmp(written + starts[i], of.source.bytes + of.starts[i], lens[i]) == 0);
@@ -337,17 +336,17 @@ static void check_kind(uint8_t kind) {
 
 static turgamysk_step_answer check_step(lent_bytes source, size_t limit, size_t position, size_t count) {
     turgamysk_step_answer step = turgamysk_covenant_run_next_with_limit(source.bytes, source.length, limit, position, count);
-    answered(ENTRY_covenant_run_next_with_limit, VERDICT(step));
-    witness(step.position);
-    bool covenant = step.number == 0 && !step.ended;
+    answered(ENTRY_covenant_run_next_with_limit, VERDICT(step.stop));
+    witness(step.stop.position);
+    bool covenant = step.stop.number == 0 && !step.ended;
     REQUIRE(step.ended == (position == source.length));
     REQUIRE(step.covenants == count + covenant);
     REQUIRE(covenant || (step.kind == 0 && step.count == 0 && step.used == 0));
-    REQUIRE(!step.ended || (step.number == 0 && step.position == 0));
+    REQUIRE(!step.ended || (step.stop.number == 0 && step.stop.position == 0));
     check_kind(step.kind);
     if (!step.ended) {
         turgamysk_covenant_answer read = turgamysk_covenant_read(source.bytes, source.length, position, limit);
-        REQUIRE(same_verdict(VERDICT(step), VERDICT(read)) && step.position == read.position);
+        REQUIRE(same_stop(step.stop, read.stop));
         REQUIRE(step.kind == read.kind && step.count == read.count && step.used == read.used);
     }
     return step;
@@ -356,23 +355,22 @@ static turgamysk_step_answer check_step(lent_bytes source, size_t limit, size_t 
 /* The default's step is the one under the largest allowance. */
 static void check_default_step(lent_bytes source, size_t position, size_t count) {
     turgamysk_step_answer step = turgamysk_covenant_run_next(source.bytes, source.length, position, count);
-    answered(ENTRY_covenant_run_next, VERDICT(step));
+    answered(ENTRY_covenant_run_next, VERDICT(step.stop));
     turgamysk_step_answer same = check_step(source, LARGEST_COVENANT, position, count);
-    REQUIRE(same_verdict(VERDICT(step), VERDICT(same)) && step.position == same.position && step.ended == same.ended);
+    REQUIRE(same_stop(step.stop, same.stop) && step.ended == same.ended);
     REQUIRE(step.kind == same.kind && step.count == same.count && step.used == same.used && step.covenants == same.covenants);
 }
 
 static void check_default_run(turgamysk_run_answer run, turgamysk_run_answer same) {
-    REQUIRE(same_verdict(VERDICT(run), VERDICT(same)));
-    REQUIRE(run.position == same.position && run.covenants == same.covenants);
+    REQUIRE(same_stop(run.stop, same.stop) && run.covenants == same.covenants);
 }
 
 /* So are its runs, and the archive's. */
 static void check_default_runs(lent_bytes source) {
     turgamysk_run_answer run = turgamysk_covenant_read_run(source.bytes, source.length);
-    answered(ENTRY_covenant_read_run, VERDICT(run));
+    answered(ENTRY_covenant_read_run, VERDICT(run.stop));
     turgamysk_run_answer archive = turgamysk_covenant_import_archive(source.bytes, source.length);
-    answered(ENTRY_covenant_import_archive, VERDICT(archive));
+    answered(ENTRY_covenant_import_archive, VERDICT(archive.stop));
     turgamysk_run_answer same = turgamysk_covenant_read_run_with_limit(source.bytes, source.length, LARGEST_COVENANT);
     check_default_run(run, same);
     check_default_run(archive, same);
@@ -381,18 +379,17 @@ static void check_default_runs(lent_bytes source) {
 /* Step by step to the end; a run of more covenants than can be read in good time is left. */
 static void check_run(lent_bytes source, size_t limit) {
     turgamysk_step_answer step = check_step(source, limit, 0, 0);
-    while (step.number == 0 && !step.ended && step.covenants < STEPS_CHECKED) {
-        step = check_step(source, limit, step.position, step.covenants);
+    while (step.stop.number == 0 && !step.ended && step.covenants < STEPS_CHECKED) {
+        step = check_step(source, limit, step.stop.position, step.covenants);
     }
     turgamysk_run_answer run = turgamysk_covenant_read_run_with_limit(source.bytes, source.length, limit);
-    answered(ENTRY_covenant_read_run_with_limit, VERDICT(run));
+    answered(ENTRY_covenant_read_run_with_limit, VERDICT(run.stop));
     witness(run.covenants);
-    if (step.number == 0 && !step.ended) {
+    if (step.stop.number == 0 && !step.ended) {
         REQUIRE(run.covenants >= step.covenants);
         return;
     }
-    REQUIRE(same_verdict(VERDICT(run), VERDICT(step)));
-    REQUIRE(run.position == step.position && run.covenants == step.covenants);
+    REQUIRE(same_stop(run.stop, step.stop) && run.covenants == step.covenants);
 }
 
 void play(test_case given) {

@@ -12,7 +12,7 @@
 static layout current_layout;
 
 void claim_broken(const char *claim, const char *file, int line) {
-    static const char *const names[LAYOUTS] = {"guard behind", "guard before, zeros behind", "guard before, 0xff behind"};
+    static const char *const names[LAYOUTS] = {"guard after", "guard before, zeros after", "guard before, 0xff after"};
     fprintf(stderr, "%s:%d: does not hold (%s): %s\n", file, line, names[current_layout], claim);
     abort();
 }
@@ -88,7 +88,7 @@ const uint8_t *lend_input(region *to, layout where, const uint8_t *bytes, size_t
     return lent_by(to);
 }
 
-/* The first watched byte: where the guard page is behind, the margin stands before the bytes. */
+/* The first watched byte: where the guard page comes after, the margin stands before the bytes. */
 static uint8_t *watched(const region *lent) {
     return lent->writable + lent->offset - (lent->where == AGAINST_END ? MARGIN : 0);
 }
@@ -110,7 +110,10 @@ bool untouched_from(const region *lent, size_t from) {
 
 enum { NUMBERS = 32, CLASSES = 8 };
 
-/* libFuzzer takes a byte of this section that is not zero for code that ran: so a new answer of the archive counts as new coverage. */
+/*
+ * libFuzzer takes a byte of this section that is not zero for code that ran: so a new answer of the archive counts as
+ * new coverage.
+ */
 static uint8_t seen[ENTRY_COUNT][NUMBERS][CLASSES][CLASSES] __attribute__((section("__libfuzzer_extra_counters"), used));
 
 static uint64_t tally[ENTRY_COUNT][NUMBERS];
@@ -241,6 +244,10 @@ bool same_verdict(verdict one, verdict other) {
     return one.number == other.number && one.first == other.first && one.second == other.second && one.third == other.third;
 }
 
+bool same_stop(turgamysk_stop one, turgamysk_stop other) {
+    return same_verdict(VERDICT(one), VERDICT(other)) && one.position == other.position;
+}
+
 /* How often an entry gave each number. */
 static void print_entry_tally(const char *name, const uint64_t *counts) {
     fprintf(stderr, "answers %s", name);
@@ -310,10 +317,15 @@ size_t choose_number(choices *from, size_t near) {
 
 static uint8_t payload[LONGEST_PAYLOAD];
 
-/* Set by TURGAMYSK_STRETCH: every payload is made about as long as the longest covenant, whose limits are out of reach otherwise. */
+/*
+ * Set by TURGAMYSK_STRETCH: every payload is made about as long as the longest covenant, whose limits are out of reach
+ * otherwise.
+ */
 static bool stretched;
 
-/* The payload is repeated bytes behind its own: the first two choices are the byte and how far it goes past 1,000,000. */
+/*
+ * The payload is repeated bytes after its own: the first two choices are the byte and how far it goes past 1,000,000.
+ */
 static size_t stretch(choices *choose, size_t length) {
     uint8_t filler = choose_byte(choose);
     size_t whole = LARGEST_ITEM + (size_t)choose_byte(choose);

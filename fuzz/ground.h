@@ -1,10 +1,12 @@
 /*
- * What the targets stand on: memory between guard pages, claims, the refusals that each entry may give, and what libFuzzer is told of the answers.
+ * What the targets stand on: memory between guard pages, claims, the refusals that each entry may give, and what
+ * libFuzzer is told of the answers.
  */
 #ifndef GROUND_H
 #define GROUND_H
 
 #include "turgamysk.h"
+#include "turgamysk_wire.h"
 
 #include <stdbool.h>
 #include <stddef.h>
@@ -20,7 +22,7 @@ void claim_broken(const char *claim, const char *file, int line) __attribute__((
 /* ---- layouts: every case is played once in each, and every answer must be the same in all */
 
 typedef enum {
-    AGAINST_END,         /* the guard page is right behind the last byte */
+    AGAINST_END,         /* the guard page is right after the last byte */
     AGAINST_START_ZEROS, /* the guard page is right before the first byte, and zeros follow the last */
     AGAINST_START_ONES,  /* the same with bytes 0xff */
     LAYOUTS
@@ -56,7 +58,10 @@ void make_output_region(region *made, size_t longest);
 /* The bytes, for an entry to read. */
 const uint8_t *lend_input(region *to, layout where, const uint8_t *bytes, size_t length);
 
-/* So many bytes of a pattern, for an entry to write; and whether the pattern still stands from byte number `from` on, and beside the bytes. */
+/*
+ * So many bytes of a pattern, for an entry to write; and whether the pattern still stands from byte number `from` on,
+ * and beside the bytes.
+ */
 uint8_t *lend_output(region *to, layout where, size_t length);
 bool untouched_from(const region *lent, size_t from);
 
@@ -134,7 +139,7 @@ uint8_t *lent_by(const region *lender);
 #define ENTRY_NUMBER(name, refusals) ENTRY_##name,
 typedef enum { ENTRIES(ENTRY_NUMBER) ENTRY_COUNT } entry;
 
-/* What every answer that can refuse begins with. */
+/* What every answer that can refuse begins with; where it reads, the position follows. */
 typedef struct {
     uint8_t number;
     size_t first;
@@ -144,10 +149,14 @@ typedef struct {
 
 #define VERDICT(answer) ((verdict){(answer).number, (answer).first, (answer).second, (answer).third})
 
-/* The verdict is one that the entry may give, and carries what its number says and zeros besides; libFuzzer is told of it. */
+/*
+ * The verdict is one that the entry may give, and carries what its number says and zeros besides; libFuzzer is told of
+ * it.
+ */
 void answered(entry by, verdict given);
 
 bool same_verdict(verdict one, verdict other);
+bool same_stop(turgamysk_stop one, turgamysk_stop other);
 
 /* Tells libFuzzer of an answer without a number; and of more values of an answer that was counted. */
 void observed(entry by, uint8_t outcome, size_t first, size_t second);

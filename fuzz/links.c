@@ -4,10 +4,6 @@
 
 #include <string.h>
 
-#ifndef TURGAMYSK_LINKS
-#error "the header does not declare turgamysk_verify_covenant_links"
-#endif
-
 enum { START_SIZE = 4, LARGEST_REPORTED = 32768 };
 
 static region transaction_region, coins_region, line_region;
@@ -108,7 +104,10 @@ static bool pair_is_allowed(const verified *of, place spent, place created) {
     }
 }
 
-/* Accepted pairs keep their row, and in a linked one have the same name and start; outputs past the inputs are not linked. */
+/*
+ * Accepted pairs keep their row, and in a linked one have the same name and start; outputs past the inputs are not
+ * linked.
+ */
 static void check_pairs(const verified *of) {
     const sheet *coins = of->coins;
     const sheet *transaction = of->transaction;
@@ -133,13 +132,13 @@ static void check_pairs(const verified *of) {
 static void check_outpoints(const verified *of) {
     static const turgamysk_outpoint zeros;
     turgamysk_links_answer answer = of->answer;
-    if (answer.number != 12) {
+    if (answer.stop.number != 12) {
         REQUIRE(memcmp(&answer.expected, &zeros, sizeof zeros) == 0 && memcmp(&answer.actual, &zeros, sizeof zeros) == 0);
         return;
     }
-    REQUIRE(answer.first < of->transaction->answer.inputs);
-    REQUIRE(is_outpoint_at(of->transaction, outpoint_position(of->transaction, answer.first), answer.expected));
-    REQUIRE(is_outpoint_at(of->coins, outpoint_position(of->coins, answer.first), answer.actual));
+    REQUIRE(answer.stop.first < of->transaction->answer.inputs);
+    REQUIRE(is_outpoint_at(of->transaction, outpoint_position(of->transaction, answer.stop.first), answer.expected));
+    REQUIRE(is_outpoint_at(of->coins, outpoint_position(of->coins, answer.stop.first), answer.actual));
     REQUIRE(memcmp(&answer.expected, &answer.actual, sizeof zeros) != 0);
 }
 
@@ -176,9 +175,9 @@ static bool pair_has_fault(const verified *of, place spent, place created) {
     const sheet *coins = of->coins;
     const sheet *transaction = of->transaction;
     turgamysk_links_answer answer = of->answer;
-    switch (answer.number) {
+    switch (answer.stop.number) {
     case 14:
-        return answer.second == spent.kind && answer.third == created.kind;
+        return answer.stop.second == spent.kind && answer.stop.third == created.kind;
     case 16:
         return !same_item(coins, spent, transaction, created, 0, HASH_SIZE);
     case 17:
@@ -190,7 +189,7 @@ static bool pair_has_fault(const verified *of, place spent, place created) {
     case 22:
         return value_of(transaction, created) != value_of(coins, spent);
     case 25:
-        return answer.second == created.kind;
+        return answer.stop.second == created.kind;
     default:
         return true;
     }
@@ -198,20 +197,20 @@ static bool pair_has_fault(const verified *of, place spent, place created) {
 
 static void check_spent(const verified *of) {
     turgamysk_links_answer answer = of->answer;
-    REQUIRE(answer.first < of->transaction->answer.inputs);
-    place spent = record_place(of->coins, answer.first);
-    REQUIRE(spent_kind_fits(answer.number, spent.kind));
-    bool partner = answer.first < of->transaction->answer.outputs;
-    REQUIRE(answer.number != 13 || (!partner && answer.second == spent.kind));
-    REQUIRE(answer.number == 13 || answer.number == 24 || partner);
-    REQUIRE(!partner || pair_has_fault(of, spent, record_place(of->transaction, answer.first)));
+    REQUIRE(answer.stop.first < of->transaction->answer.inputs);
+    place spent = record_place(of->coins, answer.stop.first);
+    REQUIRE(spent_kind_fits(answer.stop.number, spent.kind));
+    bool partner = answer.stop.first < of->transaction->answer.outputs;
+    REQUIRE(answer.stop.number != 13 || (!partner && answer.stop.second == spent.kind));
+    REQUIRE(answer.stop.number == 13 || answer.stop.number == 24 || partner);
+    REQUIRE(!partner || pair_has_fault(of, spent, record_place(of->transaction, answer.stop.first)));
 }
 
 static void check_unpaired(const verified *of) {
     turgamysk_links_answer answer = of->answer;
-    REQUIRE(of->transaction->answer.inputs <= answer.first && answer.first < of->transaction->answer.outputs);
-    uint8_t kind = record_place(of->transaction, answer.first).kind;
-    REQUIRE(kind == answer.second && turgamysk_is_linked(kind));
+    REQUIRE(of->transaction->answer.inputs <= answer.stop.first && answer.stop.first < of->transaction->answer.outputs);
+    uint8_t kind = record_place(of->transaction, answer.stop.first).kind;
+    REQUIRE(kind == answer.stop.second && turgamysk_is_linked(kind));
 }
 
 static void check_rule(const verified *of) {
@@ -219,17 +218,17 @@ static void check_rule(const verified *of) {
     size_t inputs = of->transaction->answer.inputs;
     size_t coins = of->coins->answer.inputs;
     REQUIRE(answer.side == 0);
-    REQUIRE(answer.number == 0 || (10 <= answer.number && answer.number <= 26));
-    REQUIRE((answer.number == 10) == first_input_is_null(of->transaction));
-    REQUIRE(answer.number == 10 || (answer.number == 11) == (inputs != coins));
-    REQUIRE(answer.number != 11 || (answer.first == inputs && answer.second == coins));
+    REQUIRE(answer.stop.number == 0 || (10 <= answer.stop.number && answer.stop.number <= 26));
+    REQUIRE((answer.stop.number == 10) == first_input_is_null(of->transaction));
+    REQUIRE(answer.stop.number == 10 || (answer.stop.number == 11) == (inputs != coins));
+    REQUIRE(answer.stop.number != 11 || (answer.stop.first == inputs && answer.stop.second == coins));
     check_outpoints(of);
-    if (answer.number == 0) {
+    if (answer.stop.number == 0) {
         check_summary(of);
         check_pairs(of);
-    } else if (answer.number == 26) {
+    } else if (answer.stop.number == 26) {
         check_unpaired(of);
-    } else if (answer.number > 12) {
+    } else if (answer.stop.number > 12) {
         check_spent(of);
     }
 }
@@ -238,7 +237,7 @@ static void check_rule(const verified *of) {
 
 /* The transaction sheet is judged whole, then the coin sheet: their refusals are the verifier's. */
 static void check_sheet_refusal(const verified *of, const sheet *refused) {
-    REQUIRE(same_verdict(VERDICT(of->answer), VERDICT(refused->answer)));
+    REQUIRE(same_verdict(VERDICT(of->answer.stop), VERDICT(refused->answer.stop)));
     REQUIRE(of->answer.side == refused->side);
     check_outpoints(of);
 }
@@ -247,34 +246,39 @@ static verified verify(const sheet *transaction, const sheet *coins) {
     verified made = {.transaction = transaction, .coins = coins};
     made.answer = turgamysk_verify_covenant_links(transaction->bytes, transaction->length, coins->bytes, coins->length);
     turgamysk_links_answer answer = made.answer;
-    answered(ENTRY_verify_covenant_links, VERDICT(answer));
-    distinguished(ENTRY_verify_covenant_links, answer.number, answer.linked_outputs, answer.name_inputs);
+    answered(ENTRY_verify_covenant_links, VERDICT(answer.stop));
+    distinguished(ENTRY_verify_covenant_links, answer.stop.number, answer.linked_outputs, answer.name_inputs);
     witness(answer.side);
     witness(answer.inputs_checked);
     witness(answer.linked_outputs);
     witness(answer.name_inputs);
-    REQUIRE(answer.number == 0 || (answer.inputs_checked == 0 && answer.linked_outputs == 0 && answer.name_inputs == 0));
+    REQUIRE(answer.stop.position == 0);
+    REQUIRE(answer.stop.number == 0 || (answer.inputs_checked == 0 && answer.linked_outputs == 0 && answer.name_inputs == 0));
     return made;
 }
 
 /* ---- the report */
 
-/* "at" gives the index for 12 to 26; each sheet is refused by 28 before it is judged where it is too long for the report. */
+/*
+ * "at" gives the index for 12 to 26; each sheet is refused by 28 before it is judged where it is too long for the
+ * report.
+ */
 static line expected_line(const verified *of) {
     turgamysk_links_answer answer = of->answer;
     if (of->transaction->length > LARGEST_REPORTED) {
         return refused_line(28);
     }
-    if (of->transaction->answer.number != 0) {
-        return refused_line(of->transaction->answer.number);
+    if (of->transaction->answer.stop.number != 0) {
+        return refused_line(of->transaction->answer.stop.number);
     }
     if (of->coins->length > LARGEST_REPORTED) {
         return refused_line(28);
     }
-    if (answer.number == 0) {
+    if (answer.stop.number == 0) {
         return summary_line(answer);
     }
-    return 12 <= answer.number && answer.number <= 26 ? refused_line_at(answer.number, answer.first) : refused_line(answer.number);
+    uint8_t number = answer.stop.number;
+    return 12 <= number && number <= 26 ? refused_line_at(number, answer.stop.first) : refused_line(number);
 }
 
 static void check_link_line(const verified *of, layout where, size_t room) {
@@ -292,9 +296,9 @@ void play(test_case given) {
     verified answer = verify(&transaction, &coins);
     check_link_line(&answer, given.where, LONGEST_LINE);
     check_link_line(&answer, given.where, choose_byte(&given.choose) % LONGEST_LINE);
-    if (transaction.answer.number != 0) {
+    if (transaction.answer.stop.number != 0) {
         check_sheet_refusal(&answer, &transaction);
-    } else if (coins.answer.number != 0) {
+    } else if (coins.answer.stop.number != 0) {
         check_sheet_refusal(&answer, &coins);
     } else {
         check_rule(&answer);

@@ -1,4 +1,7 @@
-/* Names, name states and hashes: records read under a key, states written, compared, told of and reported, and states that no reader made. */
+/*
+ * Names, name states and hashes: records read under a key, states written, compared, told of and reported, and states
+ * that no reader made.
+ */
 #include "lines.h"
 
 #include <string.h>
@@ -222,7 +225,10 @@ static void check_comparisons(const turgamysk_name_state *state, uint8_t chosen)
     REQUIRE(!turgamysk_name_state_same(*state, other));
 }
 
-/* Writes into so much room, and gives how many bytes were written: all, or none. `size` is the whole record's, or 0 if it cannot be written. */
+/*
+ * Writes into so much room, and gives how many bytes were written: all, or none. `size` is the whole record's, or 0 if
+ * it cannot be written.
+ */
 static size_t check_encode(const turgamysk_name_state *state, layout where, size_t room, size_t *size) {
     turgamysk_write_answer whole = turgamysk_name_state_encoded_size(*state);
     answered(ENTRY_name_state_encoded_size, VERDICT(whole));
@@ -250,12 +256,12 @@ static bool is_zeros(const turgamysk_name_state *state) {
 
 static turgamysk_state_answer decode(const uint8_t *key, const uint8_t *record, size_t length) {
     turgamysk_state_answer answer = turgamysk_name_state_decode(key, record, length);
-    answered(ENTRY_name_state_decode, VERDICT(answer));
-    witness(answer.position);
+    answered(ENTRY_name_state_decode, VERDICT(answer.stop));
+    witness(answer.stop.position);
     witness_state(&answer.state);
-    REQUIRE(answer.position <= length);
-    if (answer.number == 0) {
-        REQUIRE(length <= LARGEST_STATE && answer.position == length);
+    REQUIRE(answer.stop.position <= length);
+    if (answer.stop.number == 0) {
+        REQUIRE(length <= LARGEST_STATE && answer.stop.position == length);
         return answer;
     }
     REQUIRE(is_zeros(&answer.state));
@@ -266,12 +272,12 @@ static void check_changed_length(const uint8_t *key, layout where, const uint8_t
     static uint8_t longer[LARGEST_STATE + 1];
     size_t left = length - 1 - chosen % length;
     turgamysk_state_answer cut = decode(key, lend_input(&changed_region, where, payload, left), left);
-    REQUIRE(cut.number == 1);
+    REQUIRE(cut.stop.number == 1);
     memcpy(longer, payload, length);
     longer[length] = chosen;
     turgamysk_state_answer more = decode(key, lend_input(&changed_region, where, longer, length + 1), length + 1);
     bool within = length < LARGEST_STATE;
-    REQUIRE(same_verdict(VERDICT(more), within ? (verdict){3, 1, 0, 0} : (verdict){5, length + 1, LARGEST_STATE, 0}));
+    REQUIRE(same_verdict(VERDICT(more.stop), within ? (verdict){3, 1, 0, 0} : (verdict){5, length + 1, LARGEST_STATE, 0}));
 }
 
 /* An accepted record is what the writer gives of its state. */
@@ -306,7 +312,7 @@ static void check_report(test_case given, const uint8_t *key, turgamysk_state_an
     memcpy(file, key, HASH_SIZE);
     memcpy(file + HASH_SIZE, given.payload, given.length);
     uint8_t class = turgamysk_name_state_class(answer.state);
-    line expected = answer.number == 0 ? state_line(class, answer.state.name_length, given.length) : refused_line(answer.number);
+    line expected = answer.stop.number == 0 ? state_line(class, answer.state.name_length, given.length) : refused_line(answer.stop.number);
     check_name_line(given.where, file, HASH_SIZE + given.length, room, expected);
     check_name_line(given.where, file, room % HASH_SIZE, room, refused_line(1));
 }
@@ -327,10 +333,10 @@ static void check_record(test_case given, const uint8_t *key, uint8_t chosen) {
     const uint8_t *record = lend_input(&record_region, given.where, given.payload, given.length);
     turgamysk_state_answer answer = decode(key, record, given.length);
     if (given.length > LARGEST_STATE) {
-        REQUIRE(same_verdict(VERDICT(answer), (verdict){5, given.length, LARGEST_STATE, 0}) && answer.position == 0);
+        REQUIRE(same_verdict(VERDICT(answer.stop), (verdict){5, given.length, LARGEST_STATE, 0}) && answer.stop.position == 0);
     }
     check_report(given, key, answer, chosen % (2 * LONGEST_LINE));
-    if (answer.number == 0) {
+    if (answer.stop.number == 0) {
         check_accepted(&answer.state, key, given, chosen);
     }
 }
@@ -380,7 +386,7 @@ static void check_made(const turgamysk_name_state *state, layout where, size_t r
     memcpy(record, lent_by(&destination_region), written);
     const uint8_t *key = lend_input(&key_region, where, state->name_hash, HASH_SIZE);
     turgamysk_state_answer back = decode(key, lend_input(&changed_region, where, record, written), written);
-    REQUIRE(back.number == 0);
+    REQUIRE(back.stop.number == 0);
     REQUIRE(turgamysk_name_state_same(back.state, *state));
 }
 

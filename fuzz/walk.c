@@ -9,14 +9,17 @@ size_t transaction_length(test_case *given) {
         return chosen < given->length ? chosen : given->length;
     }
     turgamysk_sheet_answer whole = turgamysk_judge_transaction(given->payload, given->length);
-    return whole.number == 3 ? given->length - whole.first : given->length;
+    return whole.stop.number == 3 ? given->length - whole.stop.first : given->length;
 }
 
 size_t record_count(const sheet *of) {
     return of->side == TRANSACTION ? of->answer.outputs : of->answer.inputs;
 }
 
-/* The output's fields, its hash and its covenant, from `start` on; every read is within the sheet, since its judge accepted it. */
+/*
+ * The output's fields, its hash and its covenant, from `start` on; every read is within the sheet, since its judge
+ * accepted it.
+ */
 static place place_at(const sheet *of, size_t start) {
     place found = {.start = start, .hash = start + OUTPUT_FIELDS_SIZE};
     REQUIRE(found.hash <= of->length);
@@ -26,9 +29,9 @@ static place place_at(const sheet *of, size_t start) {
     found.covenant = found.hash + found.hash_length;
     REQUIRE(found.covenant <= of->length);
     turgamysk_covenant_answer covenant = turgamysk_covenant_read(of->bytes, of->length, found.covenant, LARGEST_COVENANT);
-    REQUIRE(covenant.number == 0);
+    REQUIRE(covenant.stop.number == 0);
     found.kind = covenant.kind;
-    found.end = covenant.position;
+    found.end = covenant.stop.position;
     return found;
 }
 
@@ -70,19 +73,20 @@ static void check_end(const sheet *of) {
 static void check_refused(const sheet *of) {
     turgamysk_sheet_answer answer = of->answer;
     REQUIRE(answer.side == of->side && answer.inputs == 0 && answer.outputs == 0);
-    REQUIRE((answer.number != 27 && answer.number != 28) || answer.first == of->side);
-    REQUIRE((answer.number == 28) == (of->length > LARGEST_SHEET));
-    REQUIRE(answer.number != 28 || answer.second == of->length);
-    REQUIRE(answer.number != 27 || answer.second < of->length);
+    REQUIRE((answer.stop.number != 27 && answer.stop.number != 28) || answer.stop.first == of->side);
+    REQUIRE((answer.stop.number == 28) == (of->length > LARGEST_SHEET));
+    REQUIRE(answer.stop.number != 28 || answer.stop.second == of->length);
+    REQUIRE(answer.stop.number != 27 || answer.stop.second < of->length);
 }
 
 sheet judge(region *to, layout where, const uint8_t *bytes, size_t length, uint8_t side) {
     sheet made = {.bytes = lend_input(to, where, bytes, length), .length = length, .side = side, .where = where};
     made.answer = side == TRANSACTION ? turgamysk_judge_transaction(made.bytes, length) : turgamysk_judge_coins(made.bytes, length);
-    answered(side == TRANSACTION ? ENTRY_judge_transaction : ENTRY_judge_coins, VERDICT(made.answer));
+    answered(side == TRANSACTION ? ENTRY_judge_transaction : ENTRY_judge_coins, VERDICT(made.answer.stop));
     witness(made.answer.inputs);
     witness(made.answer.outputs);
-    if (made.answer.number != 0) {
+    REQUIRE(made.answer.stop.position == 0);
+    if (made.answer.stop.number != 0) {
         check_refused(&made);
         return made;
     }

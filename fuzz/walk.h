@@ -37,7 +37,10 @@ place record_place(const sheet *of, size_t index);
 /* Where the outpoint of an input, or of a coin, stands. */
 size_t outpoint_position(const sheet *of, size_t index);
 
-/* How much of the payload is the transaction's sheet: a chosen number of bytes, or (from 0x8000 on) as many as it takes; the rest is the coins'. */
+/*
+ * How much of the payload is the transaction's sheet: a chosen number of bytes, or (from 0x8000 on) as many as it
+ * takes; the rest is the coins'.
+ */
 size_t transaction_length(test_case *given);
 
 #endif

@@ -1,4 +1,7 @@
-/* Reads and writes of the wire: numbers, compact sizes, spans and outpoints, from any position of any bytes and to any offset of any room. */
+/*
+ * Reads and writes of the wire: numbers, compact sizes, spans and outpoints, from any position of any bytes and to any
+ * offset of any room.
+ */
 #include "ground.h"
 
 #include <string.h>
@@ -43,20 +46,20 @@ static verdict slice_verdict(reading from, size_t size) {
 /* ---- reads */
 
 static void check_number(entry by, reading from, turgamysk_number_answer answer) {
-    answered(by, VERDICT(answer));
-    witness(answer.position);
+    answered(by, VERDICT(answer.stop));
+    witness(answer.stop.position);
     witness(answer.value);
-    REQUIRE(answer.number == 0 || answer.value == 0);
-    REQUIRE(answer.number != 0 || answer.position <= from.length);
-    REQUIRE(answer.position >= from.position);
+    REQUIRE(answer.stop.number == 0 || answer.value == 0);
+    REQUIRE(answer.stop.number != 0 || answer.stop.position <= from.length);
+    REQUIRE(answer.stop.position >= from.position);
 }
 
 /* A number of fixed width: an unfinished read stays at its start. */
 static void check_fixed(entry by, reading from, size_t size, turgamysk_number_answer answer) {
     check_number(by, from, answer);
     verdict expected = slice_verdict(from, size);
-    REQUIRE(same_verdict(VERDICT(answer), expected));
-    REQUIRE(answer.position == from.position + (expected.number == 0 ? size : 0));
+    REQUIRE(same_verdict(VERDICT(answer.stop), expected));
+    REQUIRE(answer.stop.position == from.position + (expected.number == 0 ? size : 0));
     REQUIRE(expected.number != 0 || answer.value == little_endian(from.bytes + from.position, size));
 }
 
@@ -69,7 +72,7 @@ static void check_fixed_numbers(reading from) {
 
 /* An accepted compact size is the shortest form: written again it gives the same bytes. */
 static void check_compact_bytes(reading from, turgamysk_number_answer answer) {
-    size_t size = answer.position - from.position;
+    size_t size = answer.stop.position - from.position;
     REQUIRE(size == turgamysk_compact_size_len(answer.value));
     uint8_t *again = lend_output(&destination_region, from.where, size);
     turgamysk_write_answer written = turgamysk_put_compact_size(again, size, 0, answer.value);
@@ -80,71 +83,71 @@ static void check_compact_bytes(reading from, turgamysk_number_answer answer) {
 
 /* A compact size that was refused for its form has been passed. */
 static void check_longer_form(reading from, turgamysk_number_answer answer) {
-    REQUIRE(answer.position == from.position + 1 + answer.first / 8);
+    REQUIRE(answer.stop.position == from.position + 1 + answer.stop.first / 8);
 }
 
 static void check_compact_size(reading from, size_t maximum) {
     turgamysk_number_answer answer = turgamysk_read_compact_size(from.bytes, from.length, from.position);
     check_number(ENTRY_read_compact_size, from, answer);
-    if (answer.number == 0) {
+    if (answer.stop.number == 0) {
         check_compact_bytes(from, answer);
     }
-    if (answer.number == 4) {
+    if (answer.stop.number == 4) {
         check_longer_form(from, answer);
     }
     turgamysk_number_answer bounded = turgamysk_read_compact_usize(from.bytes, from.length, from.position, maximum);
     check_number(ENTRY_read_compact_usize, from, bounded);
-    REQUIRE(bounded.position == answer.position);
-    bool above = answer.number == 0 && answer.value > maximum;
-    verdict expected = above ? (verdict){2, answer.value, maximum, 0} : VERDICT(answer);
-    REQUIRE(same_verdict(VERDICT(bounded), expected));
+    REQUIRE(bounded.stop.position == answer.stop.position);
+    bool above = answer.stop.number == 0 && answer.value > maximum;
+    verdict expected = above ? (verdict){2, answer.value, maximum, 0} : VERDICT(answer.stop);
+    REQUIRE(same_verdict(VERDICT(bounded.stop), expected));
     REQUIRE(bounded.value == (above ? 0 : answer.value));
 }
 
 static void check_span(entry by, reading from, turgamysk_span_answer answer) {
-    answered(by, VERDICT(answer));
-    witness(answer.position);
+    answered(by, VERDICT(answer.stop));
+    witness(answer.stop.position);
     witness(answer.start);
     witness(answer.length);
-    if (answer.number != 0) {
+    if (answer.stop.number != 0) {
         REQUIRE(answer.start == 0 && answer.length == 0);
         return;
     }
     REQUIRE(answer.start >= from.position && answer.start <= from.length);
     REQUIRE(answer.length <= from.length - answer.start);
-    REQUIRE(answer.position == answer.start + answer.length);
+    REQUIRE(answer.stop.position == answer.start + answer.length);
 }
 
 static void check_slices(reading from, size_t size, size_t maximum) {
     verdict expected = slice_verdict(from, size);
     turgamysk_span_answer slice = turgamysk_read_slice(from.bytes, from.length, from.position, size);
     check_span(ENTRY_read_slice, from, slice);
-    REQUIRE(same_verdict(VERDICT(slice), expected));
-    REQUIRE(slice.number != 0 || (slice.start == from.position && slice.length == size));
-    REQUIRE(slice.number == 0 || slice.position == from.position);
+    REQUIRE(same_verdict(VERDICT(slice.stop), expected));
+    REQUIRE(slice.stop.number != 0 || (slice.start == from.position && slice.length == size));
+    REQUIRE(slice.stop.number == 0 || slice.stop.position == from.position);
     turgamysk_span_answer bounded = turgamysk_read_bounded(from.bytes, from.length, from.position, size, maximum);
     check_span(ENTRY_read_bounded, from, bounded);
     bool above = size > maximum && from.position <= from.length;
-    REQUIRE(same_verdict(VERDICT(bounded), above ? (verdict){2, size, maximum, 0} : expected));
+    REQUIRE(same_verdict(VERDICT(bounded.stop), above ? (verdict){2, size, maximum, 0} : expected));
 }
 
 static void check_varbytes(reading from, size_t maximum) {
     turgamysk_span_answer span = turgamysk_read_varbytes(from.bytes, from.length, from.position, maximum);
     check_span(ENTRY_read_varbytes, from, span);
     turgamysk_number_answer size = turgamysk_read_compact_usize(from.bytes, from.length, from.position, maximum);
-    if (size.number != 0) {
-        REQUIRE(same_verdict(VERDICT(span), VERDICT(size)) && span.position == size.position);
+    if (size.stop.number != 0) {
+        REQUIRE(same_stop(span.stop, size.stop));
         return;
     }
-    turgamysk_span_answer slice = turgamysk_read_slice(from.bytes, from.length, size.position, size.value);
-    REQUIRE(same_verdict(VERDICT(span), VERDICT(slice)) && span.position == slice.position);
+    turgamysk_span_answer slice = turgamysk_read_slice(from.bytes, from.length, size.stop.position, size.value);
+    REQUIRE(same_stop(span.stop, slice.stop));
     REQUIRE(span.start == slice.start && span.length == slice.length);
 }
 
 static void check_array(reading from) {
     static const uint8_t zeros[HASH_SIZE];
     uint8_t *array = lend_output(&array_region, from.where, HASH_SIZE);
-    turgamysk_moved_answer answer = turgamysk_read_array(from.bytes, from.length, from.position, array);
+    turgamysk_stop answer = turgamysk_read_array(from.bytes, from.length, from.position, array);
     answered(ENTRY_read_array, VERDICT(answer));
     REQUIRE(untouched_from(&array_region, HASH_SIZE));
     REQUIRE(same_verdict(VERDICT(answer), slice_verdict(from, HASH_SIZE)));
@@ -156,7 +159,7 @@ static void check_ends(reading from) {
     size_t left = turgamysk_remaining(from.bytes, from.length, from.position);
     observed(ENTRY_remaining, 0, left, from.position);
     REQUIRE(left == bytes_left(from));
-    turgamysk_moved_answer answer = turgamysk_finish(from.bytes, from.length, from.position);
+    turgamysk_stop answer = turgamysk_finish(from.bytes, from.length, from.position);
     answered(ENTRY_finish, VERDICT(answer));
     REQUIRE(answer.position == from.position);
     verdict expected = left == 0 ? slice_verdict(from, 0) : (verdict){3, left, 0, 0};
@@ -183,13 +186,13 @@ static void check_outpoint(reading from) {
     static const turgamysk_outpoint zeros;
     static const turgamysk_outpoint null = {.index = UINT32_MAX};
     turgamysk_outpoint_answer answer = turgamysk_outpoint_decode(from.bytes, from.length, from.position);
-    answered(ENTRY_outpoint_decode, VERDICT(answer));
-    witness(answer.position);
+    answered(ENTRY_outpoint_decode, VERDICT(answer.stop));
+    witness(answer.stop.position);
     witness(answer.outpoint.index);
     witness_bytes(answer.outpoint.transaction_hash, HASH_SIZE);
     REQUIRE(turgamysk_outpoint_is_null(answer.outpoint) == (memcmp(&answer.outpoint, &null, sizeof null) == 0));
-    if (answer.number == 0) {
-        REQUIRE(answer.position == from.position + OUTPOINT_SIZE);
+    if (answer.stop.number == 0) {
+        REQUIRE(answer.stop.position == from.position + OUTPOINT_SIZE);
         check_outpoint_bytes(from, answer.outpoint);
     } else {
         REQUIRE(memcmp(&answer.outpoint, &zeros, sizeof zeros) == 0);
@@ -226,7 +229,7 @@ static room lend_room(layout where, choices *choose, size_t near) {
     return lent;
 }
 
-/* The bytes before `at` and behind what was written are as they were; all of them, where nothing was. */
+/* The bytes before `at` and after what was written are as they were; all of them, where nothing was. */
 static bool only_written(room lent, const uint8_t *before, size_t written) {
     size_t start = written == 0 ? 0 : lent.at;
     return memcmp(lent.bytes, before, start) == 0 && untouched_from(&destination_region, start + written);

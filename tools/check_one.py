@@ -1,10 +1,11 @@
-"""Checks that every public function of a library has its theorem that two results which meet its contract coincide: NAME-one in
-the crate's proofs/One.antt, underscores as hyphens, with the type or else the module in front where a crate has two of a name. A function
-that docs/EXCEPTIONS.md lists as left open needs none, and may have none.
+"""Checks that every public function of a library has its theorem that two results which meet its contract coincide:
+NAME-one in the crate's proofs/One.antt, underscores as hyphens, with the type or else the module in front where a crate
+has two of a name. A function that docs/EXCEPTIONS.md lists as left open needs none, and may have none.
 
-The theorem supposes the contract of two results. So each definition of specs/ and each number that the `ensures` cite must stand twice in the theorem's
-type, no other definition may stand there, and it has twice the equations of the `ensures` and at most as many again for what follows. An
-abbreviation of One.antt counts as what it stands for. So a contract can't lose a clause while its theorem stays, nor a theorem drift away.
+The theorem supposes the contract of two results. So each definition of specs/ and each number that the `ensures` cite
+must stand twice in the theorem's type, no other definition may stand there, and it has twice the equations of the
+`ensures` and at most as many again for what follows. An abbreviation of One.antt counts as what it stands for. So a
+contract can't lose a clause while its theorem stays, nor a theorem drift away.
 
     python3 tools/check_one.py [ROOT]
 """
@@ -57,7 +58,8 @@ def parts_of(code, start):
 
 
 def theorems_of(code):
-    """What the types of a file's theorems cite, by their names; abbreviations of the file count as what they stand for."""
+    """What the types of a file's theorems cite, by their names; abbreviations of the file count as what they stand
+    for."""
     meant = {}
     for match in ABBREVIATION.finditer(code):
         name = match["name"]

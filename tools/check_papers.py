@@ -1,5 +1,6 @@
 """Checks what the papers say against the tree: they are all there, every reference of docs/CLAIMS.md exists, every
-must-fail edit stands under a claim, docs/REFUSALS.md is the refusals of the code, and no file names a machine's folder.
+must-fail edit stands under a claim, docs/REFUSALS.md is the refusals of the code, the constants of the C header are
+those of the code and that table, and no file names a machine's folder.
 
     python3 tools/check_papers.py [ROOT]
 """
@@ -7,6 +8,7 @@ must-fail edit stands under a claim, docs/REFUSALS.md is the refusals of the cod
 import re
 import sys
 
+from make_header import HEADER, check_header
 from repository import (
     BACKTICKED,
     Findings,
@@ -49,7 +51,7 @@ GROUP = re.compile(r"\([^(){}]*\)|\{[^(){}]*\}")
 VARIANT = re.compile(r"(\w+)\s*(?:\{([^{}]*)\}|\(([^()]*)\))?[^,]*(?:,|$)")
 FIELD = re.compile(r"(\w+)\s*:(?!:)")
 
-# Absolute paths only: a folder of one of these names further down, or behind a variable, is no machine's.
+# Absolute paths only: a folder of one of these names further down, or after a variable, is no machine's.
 MACHINE_FOLDER = re.compile(r"(?<![\w.~})\]*-])/(?:work|farm|tmp|opt|root|home)/[^\s`'\")]*")
 
 
@@ -203,8 +205,9 @@ def main(arguments):
     references = check_claims(root, findings)
     edits = check_edits(files, references, findings)
     refusals = check_refusals(root, findings)
+    constants = check_header(root, findings) if (root / HEADER).exists() else 0
     check_machine_folders(root, files, findings)
-    counts = f"{len(references)} references, {len(edits)} must-fail edits, {refusals} refusals"
+    counts = f"{len(references)} references, {len(edits)} must-fail edits, {refusals} refusals, {constants} constants"
     return report(f"papers: {len(PAPERS)} papers, {counts}", findings)
 
 

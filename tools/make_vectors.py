@@ -5,17 +5,19 @@
 
 Where the vectors are from:
 
-- SHA3-256, the first five: NIST's example values for FIPS 202 (the messages of 0, 24, 448 and 896 bits of the Secure Hash
-  Standard's examples, and the 1600-bit one of 200 bytes 0xa3). Their digests are written out below as published.
+- SHA3-256, the first five: NIST's example values for FIPS 202 (the messages of 0, 24, 448 and 896 bits of the Secure
+  Hash Standard's examples, and the 1600-bit one of 200 bytes 0xa3). Their digests are written out below as published.
   NIST's messages of 5, 30, 1605 and 1630 bits are not whole bytes.
-- BLAKE2b-256, the first: the self-test of RFC 7693's Appendix E, a hash of 32 bytes without a key over the digests that the
-  appendix lists, 1,968 bytes; its result is written out below as published. The message is made by the appendix's recipe, with
-  hashlib's hashes. The RFC publishes "abc" for BLAKE2b-512 only, so the next two are what `b2sum -l 256` prints.
-- all others: Python's hashlib (OpenSSL's SHA-3, and the BLAKE2 authors' reference code), which shares nothing with ours.
+- BLAKE2b-256, the first: the self-test of RFC 7693's Appendix E, a hash of 32 bytes without a key over the digests that
+  the appendix lists, 1,968 bytes; its result is written out below as published. The message is made by the appendix's
+  recipe, with hashlib's hashes. The RFC publishes "abc" for BLAKE2b-512 only, so the next two are what `b2sum -l 256`
+  prints.
+- all others: Python's hashlib (OpenSSL's SHA-3, and the BLAKE2 authors' reference code), which shares nothing with
+  ours.
 
-A file is: the number of the function (1 byte) and `vectors` (7 bytes), the count of vectors (8 bytes), and the vectors. A
-vector is: how its message is given (1 byte: 0, its bytes follow; 1, it is made by the rule), the message's length (8 bytes),
-its bytes where they follow, and the digest (32 bytes). Numbers are little-endian.
+A file is: the number of the function (1 byte) and `vectors` (7 bytes), the count of vectors (8 bytes), and the vectors.
+A vector is: how its message is given (1 byte: 0, its bytes follow; 1, it is made by the rule), the message's length
+(8 bytes), its bytes where they follow, and the digest (32 bytes). Numbers are little-endian.
 """
 
 import hashlib
@@ -80,7 +82,8 @@ def selftest_seq(length):
 
 
 def self_test_message():
-    """What the self-test hashes last: of each length of a digest and of an input the digest without a key, then that with a key."""
+    """What the self-test hashes last: of each length of a digest and of an input the digest without a key, then that
+    with a key."""
     digests = []
     for size in SELF_TEST_DIGESTS:
         for length in SELF_TEST_INPUTS:

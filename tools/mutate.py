@@ -1,18 +1,20 @@
-"""Asks the prover about wrong programs: changes one comparison, operator, constant or answer of a crate's code at a time, in a copy of the
-repository, and runs `rt dev` on it. Run by hand, not by the gate: a crate takes minutes.
+"""Asks the prover about wrong programs: changes one comparison, operator, constant or answer of a crate's code at a
+time, in a copy of the repository, and runs `rt dev` on it. Run by hand, not by the gate: a crate takes minutes.
 
     python3 tools/mutate.py [--of-one N] [--function NAME].. [--list] CRATE [CRATE ..]
 
-With --of-one at most N mutants of a function or constant are judged, spread evenly over it: straight-line code has hundreds of a kind. With --function
-only those of the functions and constants of that name are, as after a change of them.
+With --of-one at most N mutants of a function or constant are judged, spread evenly over it: straight-line code has
+hundreds of a kind. With --function only those of the functions and constants of that name are, as after a change of
+them.
 
-A function's proof sees no other function's code, only its contract. So one run of the prover judges several mutants at once, at most one in each
-function and none in two functions of which one reaches the other by calls: each function has its own verdict. A mutant that is accepted so is
-judged once more alone, and so is each change of a constant that stands outside the functions.
+A function's proof sees no other function's code, only its contract. So one run of the prover judges several mutants at
+once, at most one in each function and none in two functions of which one reaches the other by calls: each function has
+its own verdict. A mutant that is accepted so is judged once more alone, and so is each change of a constant that stands
+outside the functions.
 
-For each mutant one line: `refused`, `no program` (the compiler refuses it before the prover is asked), `no verdict` (the prover gives up, or takes
-longer than its limit), or `ACCEPTED`, which is for a reader to judge: it is the same program, or a contract is too weak. The last line has the
-figures. Exit 1 where one was accepted or has no verdict.
+For each mutant one line: `refused`, `no program` (the compiler refuses it before the prover is asked), `no verdict`
+(the prover gives up, or takes longer than its limit), or `ACCEPTED`, which is for a reader to judge: it is the same
+program, or a contract is too weak. The last line has the figures. Exit 1 where one was accepted or has no verdict.
 """
 
 import argparse
@@ -42,7 +44,8 @@ OPERATORS = {
 BITS = {"&": ["|"], "|": ["&"], "^": ["|"], "<<": [">>"], ">>": ["<<"]}
 WORDS = {"true": ["false"], "false": ["true"]}
 
-# A binary operator stands between blanks in the layout that `rt fmt` gives; a number is not part of a name, a type or another number.
+# A binary operator stands between blanks in the layout that `rt fmt` gives; a number is not part of a name, a type or
+# another number.
 BINARY = re.compile(r"(?<= )(?:<=|>=|==|!=|\+=|-=|&&|\|\||<<|>>|[<>+\-*/%&|^])(?= )")
 NOT = re.compile(r"(?<=[ (])!(?=\w)")
 NUMBER = re.compile(r"(?<![\w.#])(?:0x[0-9a-fA-F_]+|\d[\d_]*)(?=(?:u8|u16|u32|u64|usize)?\b)")
@@ -85,7 +88,8 @@ def enums_of(code):
 
 
 def numbers_beside(text):
-    """The numbers one above and one below, written as the number is; 0 and 1 have no smaller one that is not another mutant's."""
+    """The numbers one above and one below, written as the number is; 0 and 1 have no smaller one that is not another
+    mutant's."""
     number = int(text.replace("_", ""), 0)
     written = hex if text.startswith("0x") else str
     return [written(number + 1)] + ([written(number - 1)] if number > 1 else [])
@@ -97,7 +101,8 @@ def byte_beside(text):
 
 
 def changes_in(text, code, start, end, enums):
-    """Every change between two places of a file's text, whose code is known without comments and literals: (place, old, new)."""
+    """Every change between two places of a file's text, whose code is known without comments and literals: (place, old,
+    new)."""
     for match in BINARY.finditer(code, start, end):
         for table in (COMPARISONS, OPERATORS, BITS):
             for new in table.get(match.group(), []):
@@ -133,7 +138,8 @@ def module_of(root, crate, path):
 
 
 def regions_of(code, module):
-    """Where code stands that can be changed: (name, the prover's name, start, end) of each function and of each constant outside them."""
+    """Where code stands that can be changed: (name, the prover's name, start, end) of each function and of each
+    constant outside them."""
     bodies = list(bodies_of(code))
     functions = [f for f in functions_of(code) if f.clauses is not None]
     for function, (name, start, end) in zip(functions, bodies):
@@ -163,7 +169,8 @@ def mutants_of(root, crate):
 
 
 def reach_of(root, crate):
-    """For each function of a crate the functions that it reaches by calls; a call is known by the callee's name alone, so they may be too many."""
+    """For each function of a crate the functions that it reaches by calls; a call is known by the callee's name alone,
+    so they may be too many."""
     bodies, named = {}, {}
     for path, (_, code) in sources_of(root, crate).items():
         for name, full, start, end in regions_of(code, module_of(root, crate, path)):
@@ -258,7 +265,8 @@ def changed(text, mutants):
 
 
 def verdicts(mutants, said):
-    """What the prover's words mean for each mutant; None where several stand or fall together and were not told apart."""
+    """What the prover's words mean for each mutant; None where several stand or fall together and were not told
+    apart."""
     if said is None:
         return ["no verdict"] if len(mutants) == 1 else None
     text, status = said
@@ -276,7 +284,8 @@ def verdicts(mutants, said):
 
 
 def homes_of(mutants, functions):
-    """A method stands under its type's module for the prover, wherever the file's is: the mutants' names that are found so, by their last two parts."""
+    """A method stands under its type's module for the prover, wherever the file's is: the mutants' names that are found
+    so, by their last two parts."""
     homes = {}
     for full in {mutant.full for mutant in mutants} - set(functions):
         alike = [name for name in functions if name.split("::")[-2:] == full.split("::")[-2:]]
@@ -333,7 +342,8 @@ def chosen_of(root, crate, functions):
 
 
 def run(root, crate, functions, most):
-    """Judges the mutants of a crate, or of some functions of it; returns how many had which verdict, and how many were left out."""
+    """Judges the mutants of a crate, or of some functions of it; returns how many had which verdict, and how many were
+    left out."""
     figures = dict.fromkeys(VERDICTS, 0)
     prover = Prover(root, crate)
     prover.begin()

@@ -1,4 +1,5 @@
-"""What the checks of this folder share: the repository's files and crates, and how Rattle, antt and Markdown are read."""
+"""What the checks of this folder share: the repository's files and crates, and how Rattle, antt and Markdown are
+read."""
 
 import os
 import re
@@ -99,7 +100,8 @@ def line_at(text, place):
 
 
 def blanked(aside, text):
-    """The text with all that `aside` matches made blank, but for its lines, and quotes, which `extern "C"` is known by."""
+    """The text with all that `aside` matches made blank, but for its lines, and quotes, which `extern "C"` is known
+    by."""
     return aside.sub(lambda match: re.sub(r'[^\n"]', " ", match.group()), text)
 
 
@@ -124,7 +126,8 @@ def closing_brace(code, opening):
 
 
 def header_from(code, place):
-    """The kinds of the clauses between a function's name, which ends at `place`, and its body, and where the body's brace is; None without a body."""
+    """The kinds of the clauses between a function's name, which ends at `place`, and its body, and where the body's
+    brace is; None without a body."""
     kinds, pending, depth = set(), None, 0
     token = HEADER_TOKEN.search(code, place)
     while token:
@@ -147,7 +150,8 @@ def header_from(code, place):
 
 
 def bodies_of(code):
-    """The functions' bodies in a Rattle file, from its code without comments: of each the name and the places of its braces."""
+    """The functions' bodies in a Rattle file, from its code without comments: of each the name and the places of its
+    braces."""
     for match in FUNCTION.finditer(code):
         header = header_from(code, match.end())
         if header and code[header[1]] == "{":
@@ -175,7 +179,8 @@ def functions_of(code):
 
 
 def ensures_of(text, function):
-    """What stands in the braces of the `ensures` of a function, one of those that `functions_of` found in the text's code."""
+    """What stands in the braces of the `ensures` of a function, one of those that `functions_of` found in the text's
+    code."""
     code = rattle_code(text)
     start = next(match for match in FUNCTION.finditer(code) if line_at(code, match.start("name")) == function.line)
     header = header_from(code, start.end())

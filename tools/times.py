@@ -1,9 +1,11 @@
-"""Where a check's seconds go: of the last `rt dev CRATE` that began without its folder target/inc/CRATE, the seconds of each function and law file.
+"""Where a check's seconds go: of the last `rt dev CRATE` that began without its folder target/inc/CRATE, the seconds of
+each function and law file.
 
     rm -rf target/inc/CRATE; rt dev CRATE; python3 tools/times.py [--most N] CRATE
 
-The prover writes a file for each module that it has checked, so what passed between two of them went into the later one's. Most of a function's seconds
-are its `Lts`, which grows faster than the function. A run over a folder that was there says nothing: what was known keeps its old time.
+The prover writes a file for each module that it has checked, so what passed between two of them went into the later
+one's. Most of a function's seconds are its `Lts`, which grows faster than the function. A run over a folder that was
+there says nothing: what was known keeps its old time.
 """
 
 import argparse
@@ -13,7 +15,8 @@ from collections import Counter
 
 from repository import HOME
 
-# `Rattle.CRATE.proofs.PATH.Part.oantt`, `.decls.oantt` where it is a record: a part that rattle makes of a function has a capital.
+# `Rattle.CRATE.proofs.PATH.Part.oantt`, `.decls.oantt` where it is a record: a part that rattle makes of a
+# function has a capital.
 MODULE = re.compile(r"^(?:Rattle·\w+(?:·\w+)?\.)?(?:proofs\.|specs\.)?(?P<path>.+?)(?:\.decls)?\.oantt$")
 
 

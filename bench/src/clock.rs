@@ -1,4 +1,5 @@
-//! The time that this thread has had a core. On a machine that does other work too, the turns of that work are not in it.
+//! The time that this thread has had a core. On a machine that does other work too, the turns of that work are not in
+//! it.
 
 use std::time::Duration;
 

@@ -71,7 +71,7 @@ pub fn instructions(row: usize, side: usize) -> u64 {
     collected(&report).unwrap_or_else(|| panic!("callgrind counted nothing: {report}")) / CALLS
 }
 
-/// The number behind `Collected :` in what callgrind says.
+/// The number after `Collected :` in what callgrind says.
 fn collected(report: &str) -> Option<u64> {
     let (_, number) = report.split_once("Collected : ")?;
     number.split_whitespace().next()?.parse().ok()

@@ -41,7 +41,7 @@ pub fn encoded(covenant: &Covenant) -> Vec<u8> {
 fn decoded(bytes: &[u8]) -> Directory {
     let mut directory = Directory::new();
     let answer = entries::covenant_decode(bytes, &mut directory);
-    assert_eq!(answer.verdict.number, 0);
+    assert_eq!(answer.stop.number, 0);
     directory
 }
 
@@ -50,7 +50,7 @@ pub fn agree() {
     for (_, covenant) in cases() {
         let bytes = encoded(&covenant);
         let read = entries::covenant_read(&bytes, 0, usize::MAX);
-        assert_eq!((read.verdict.number, read.kind), (0, covenant.kind.as_u8()));
+        assert_eq!((read.stop.number, read.kind), (0, covenant.kind.as_u8()));
         assert_eq!((read.count, read.used), (covenant.items.len(), bytes.len()));
         let directory = decoded(&bytes);
         for (index, item) in covenant.items.iter().enumerate() {
@@ -68,7 +68,7 @@ pub fn agree() {
     for cut in 0..bytes.len() {
         assert!(Covenant::decode(&bytes[..cut]).is_err());
         let read = entries::covenant_read(&bytes[..cut], 0, usize::MAX);
-        assert_eq!(read.verdict.number, 1);
+        assert_eq!(read.stop.number, 1);
     }
 }
 
@@ -81,7 +81,7 @@ fn largest() {
     let bytes = encoded(&covenant);
     assert_eq!(bytes.len(), 1_000_009);
     let read = entries::covenant_read(&bytes, 0, usize::MAX);
-    let counts = (read.verdict.number, read.count, read.used);
+    let counts = (read.stop.number, read.count, read.used);
     assert_eq!(counts, (0, 3, 1_000_009));
     let mut directory = Directory::new();
     directory.lengths[0] = 1_000_000;

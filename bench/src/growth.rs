@@ -40,14 +40,14 @@ pub fn agree() {
     for length in GROWTH {
         let bytes = covenants(length);
         let ours = read_run(&bytes);
-        assert_eq!(ours.verdict.number, 0);
+        assert_eq!(ours.stop.number, 0);
         assert_eq!(Some(ours.covenants), decode_run(&bytes).ok());
         links::accepted(&sheets::of_size(length));
     }
     let (bytes, one) = (covenants(GROWTH[0]), encoded(&register()).len());
     for cut in 0..bytes.len() {
         let refused = cut % one != 0;
-        assert_eq!(read_run(&bytes[..cut]).verdict.number != 0, refused);
+        assert_eq!(read_run(&bytes[..cut]).stop.number != 0, refused);
         assert_eq!(decode_run(&bytes[..cut]).is_err(), refused);
     }
 }

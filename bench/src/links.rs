@@ -17,7 +17,7 @@ fn same(sheets: &Sheets) -> bool {
     match &theirs {
         Ok(theirs) => {
             let ours = (
-                ours.verdict.number,
+                ours.stop.number,
                 ours.inputs_checked,
                 ours.linked_outputs,
                 ours.name_inputs,
@@ -29,7 +29,7 @@ fn same(sheets: &Sheets) -> bool {
             );
             assert_eq!(ours, (0, counts.0, counts.1, counts.2));
         }
-        Err(refused) => assert_ne!(ours.verdict.number, 0, "{refused}"),
+        Err(refused) => assert_ne!(ours.stop.number, 0, "{refused}"),
     }
     theirs.is_ok()
 }

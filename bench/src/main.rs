@@ -1,5 +1,5 @@
-//! Our code and what it replaces, on the same inputs, from one driver. A module for each part: `agree` sees that both sides
-//! answer the same, and a function for each table lays its rows, which are then timed or counted.
+//! Our code and what it replaces, on the same inputs, from one driver. A module for each part: `agree` sees that both
+//! sides answer the same, and a function for each table lays its rows, which are then timed or counted.
 
 mod blake2b_256;
 mod bytes;

@@ -1,5 +1,5 @@
-//! The oracle's path over two sheets: into the original's `Transaction` and `Coin`s, by its own decoder and covenants, and
-//! then its verifier. Nothing here is slower than it has to be: what it measures is to be the original.
+//! The oracle's path over two sheets: into the original's `Transaction` and `Coin`s, by its own decoder and covenants,
+//! and then its verifier. Nothing here is slower than it has to be: what it measures is to be the original.
 
 use hns_covenants::Covenant;
 use hns_encoding::Decoder;
@@ -13,7 +13,7 @@ type Parsed<T> = Result<T, Box<dyn Error>>;
 
 const LONGEST: usize = 16_777_216;
 
-/// A sheet's decoder behind its head, and the two counts of the head.
+/// A sheet's decoder after its head, and the two counts of the head.
 fn open(sheet: &[u8], side: u32) -> Parsed<(Decoder<'_>, usize, usize)> {
     if sheet.len() > LONGEST {
         return Err("the sheet is too long".into());

@@ -1,5 +1,5 @@
-//! The tables of growth as one picture: time a byte against bytes, both by their logarithms. A part has its own mark and
-//! colour; ours is solid, and the reference dashed and hollow.
+//! The tables of growth as one picture: time a byte against bytes, both by their logarithms. A part has its own mark
+//! and colour; ours is solid, and the reference dashed and hollow.
 
 use crate::table::Table;
 use crate::task::Label;

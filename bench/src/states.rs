@@ -94,14 +94,14 @@ fn same(ours: &turgamysk::NameState, theirs: &NameState) {
     );
 }
 
-/// Both sides read and write the states alike, refuse every beginning of a record, and accept or refuse alike a record with
-/// one bit of one byte changed, for each byte; ours refuses another key by 9.
+/// Both sides read and write the states alike, refuse every beginning of a record, and accept or refuse alike a record
+/// with one bit of one byte changed, for each byte; ours refuses another key by 9.
 pub fn agree() {
     for state in [held(), full(), NameState::null(held().name_hash)] {
         let key = state.name_hash.into_bytes();
         let bytes = encoded(&state);
         let read = entries::name_state_decode(&key, &bytes);
-        assert_eq!((read.verdict.number, read.position), (0, bytes.len()));
+        assert_eq!((read.stop.number, read.stop.position), (0, bytes.len()));
         same(&read.state, &state);
         let mut written = vec![0; bytes.len()];
         let answer = entries::name_state_encode(&read.state, &mut written);
@@ -115,9 +115,7 @@ pub fn agree() {
         for cut in 0..bytes.len() {
             assert!(NameState::decode(state.name_hash, &bytes[..cut]).is_err());
             assert_ne!(
-                entries::name_state_decode(&key, &bytes[..cut])
-                    .verdict
-                    .number,
+                entries::name_state_decode(&key, &bytes[..cut]).stop.number,
                 0
             );
         }
@@ -127,15 +125,13 @@ pub fn agree() {
             let ours = entries::name_state_decode(&key, &changed);
             match NameState::decode(state.name_hash, &changed) {
                 Ok(theirs) => same(&ours.state, &theirs),
-                Err(_) => assert_ne!(ours.verdict.number, 0),
+                Err(_) => assert_ne!(ours.stop.number, 0),
             }
         }
     }
     let bytes = encoded(&held());
     assert_eq!(
-        entries::name_state_decode(&bytes_32(), &bytes)
-            .verdict
-            .number,
+        entries::name_state_decode(&bytes_32(), &bytes).stop.number,
         9
     );
 }

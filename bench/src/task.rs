@@ -1,5 +1,5 @@
-//! What the modules say of their tables and rows, and what may be done with these: all of them are measured, or one side of
-//! one row is run.
+//! What the modules say of their tables and rows, and what may be done with these: all of them are measured, or one
+//! side of one row is run.
 
 use crate::timing::Side;
 use std::fmt;

@@ -1,4 +1,5 @@
-//! The time of a call, as the best of many batches. The sides' batches take turns, so that a busy machine slows them alike.
+//! The time of a call, as the best of many batches. The sides' batches take turns, so that a busy machine slows them
+//! alike.
 
 use crate::clock;
 use std::time::{Duration, Instant};

@@ -1,12 +1,13 @@
 /*
- * What a program in C does with the entries: it hashes, adds amounts, reads and writes a covenant and the state of a name, judges sheets and makes the
- * lines of the reports.
+ * What a program in C does with the entries: it compares the versions, hashes, adds amounts, reads and writes a
+ * covenant and the state of a name, judges sheets and makes the lines of the reports.
  *
- *     cc -I include bindings/c/example.c target/staticlib/libcapi.a -o example && ./example
+ *     cc -I bindings/c bindings/c/example.c target/lib/libturgamysk.a -o example && ./example
  *
  * c/example.out has what it prints.
  */
 #include "turgamysk.h"
+#include "turgamysk_wire.h"
 
 #include <stdio.h>
 #include <string.h>
@@ -19,8 +20,19 @@ static void print_bytes(const char *label, const uint8_t *bytes, size_t length) 
     printf("\n");
 }
 
-static void print_refusal(const char *label, uint8_t number, size_t first, size_t second, size_t position) {
-    printf("%s refused %u {%zu, %zu} at %zu\n", label, number, first, second, position);
+static void print_stop(const char *label, turgamysk_stop stop) {
+    printf("%s refused %u {%zu, %zu} at %zu\n", label, stop.number, stop.first, stop.second, stop.position);
+}
+
+static void print_unwritten(const char *label, turgamysk_write_answer answer) {
+    printf("%s refused %u {%zu, %zu}\n", label, answer.number, answer.first, answer.second);
+}
+
+/* The header and the archive are of one interface. */
+static bool check_version(void) {
+    uint32_t version = turgamysk_version();
+    printf("interface %u, the header's %u\n", version, TURGAMYSK_VERSION);
+    return version == TURGAMYSK_VERSION;
 }
 
 static void hash(void) {
@@ -50,8 +62,8 @@ static void read_covenant(const uint8_t *bytes, size_t length) {
     /* The directory takes 16 kB; it is lent, so it may live anywhere. */
     static size_t starts[1000], lens[1000];
     turgamysk_covenant_answer answer = turgamysk_covenant_decode(bytes, length, starts, lens);
-    if (answer.number != 0) {
-        print_refusal("covenant", answer.number, answer.first, answer.second, answer.position);
+    if (answer.stop.number != 0) {
+        print_stop("covenant", answer.stop);
         return;
     }
     printf("covenant of kind %u with %zu items in %zu bytes\n", answer.kind, answer.count, answer.used);
@@ -62,7 +74,7 @@ static void read_covenant(const uint8_t *bytes, size_t length) {
     turgamysk_write_answer written = turgamysk_covenant_encode(again, sizeof again, answer.kind, bytes, length, starts, lens, answer.count);
     print_bytes("written", again, written.written);
     written = turgamysk_covenant_encode(again, 2, answer.kind, bytes, length, starts, lens, answer.count);
-    print_refusal("written", written.number, written.first, written.second, 0);
+    print_unwritten("written", written);
 }
 
 static void read_covenants(void) {
@@ -72,21 +84,21 @@ static void read_covenants(void) {
     read_covenant(good, 7);
     read_covenant(longer_form, sizeof longer_form);
     turgamysk_covenant_answer answer = turgamysk_covenant_read(good, sizeof good, 4, 3);
-    printf("read at 4 under 3: number %u, kind %u, %zu items, %zu bytes\n", answer.number, answer.kind, answer.count, answer.used);
+    printf("read at 4 under 3: number %u, kind %u, %zu items, %zu bytes\n", answer.stop.number, answer.kind, answer.count, answer.used);
     answer = turgamysk_covenant_read(good, sizeof good, 9, 1000009);
-    print_refusal("read at 9", answer.number, answer.first, answer.second, answer.position);
+    print_stop("read at 9", answer.stop);
     const uint8_t inside[] = {0xff, 9, 1, 1, 5, 0xff};
     static size_t starts[1000], lens[1000];
     answer = turgamysk_covenant_decode_from(inside, sizeof inside, 1, 4, starts, lens);
     printf("decoded at 1 under 4: kind %u, its %zu item has %zu byte at %zu\n", answer.kind, answer.count, lens[0], starts[0]);
     answer = turgamysk_covenant_decode_from(inside, sizeof inside, 1, 3, starts, lens);
-    print_refusal("decoded at 1 under 3", answer.number, answer.first, answer.second, answer.position);
+    print_stop("decoded at 1 under 3", answer.stop);
 }
 
 static void read_state(const uint8_t *key, const uint8_t *record, size_t length) {
     turgamysk_state_answer answer = turgamysk_name_state_decode(key, record, length);
-    if (answer.number != 0) {
-        print_refusal("state", answer.number, answer.first, answer.second, answer.position);
+    if (answer.stop.number != 0) {
+        print_stop("state", answer.stop);
         return;
     }
     uint8_t again[668];
@@ -117,8 +129,8 @@ static void read_states(void) {
 }
 
 static void print_sheet(const char *label, turgamysk_sheet_answer answer) {
-    if (answer.number != 0) {
-        printf("%s refused %u {%zu, %zu} on side %u\n", label, answer.number, answer.first, answer.second, answer.side);
+    if (answer.stop.number != 0) {
+        printf("%s refused %u {%zu, %zu} on side %u\n", label, answer.stop.number, answer.stop.first, answer.stop.second, answer.side);
         return;
     }
     printf("%s has %zu inputs, %zu outputs\n", label, answer.inputs, answer.outputs);
@@ -136,9 +148,9 @@ static void judge_sheets(void) {
     view = turgamysk_view_item(tx, sizeof tx, coins, sizeof coins, 1, 0, 1);
     printf("on the other side: %s\n", view.exists ? "an item" : "none");
     turgamysk_place_answer place = turgamysk_sheet_place_at(tx, sizeof tx, 4, 0);
-    printf("output of %llu, kind %u, covenant at %zu, end at %zu\n", (unsigned long long)place.value, place.kind, place.covenant, place.position);
+    printf("output of %llu, kind %u, covenant at %zu, end at %zu\n", (unsigned long long)place.value, place.kind, place.covenant, place.stop.position);
     turgamysk_outpoint_answer input = turgamysk_sheet_input_at(tx, sizeof tx, 4);
-    print_refusal("input", input.number, input.first, input.second, input.position);
+    print_stop("input", input.stop);
 }
 
 static void print_line(turgamysk_write_answer written, const uint8_t *line) {
@@ -154,18 +166,21 @@ static void print_lines(void) {
     print_line(turgamysk_link_line(coins, sizeof coins, coins, sizeof coins, line, sizeof line), line);
     print_line(turgamysk_name_line(file, sizeof file, line, sizeof line), line);
     turgamysk_write_answer written = turgamysk_name_line(file, sizeof file, line, 26);
-    print_refusal("line", written.number, written.first, written.second, 0);
+    print_unwritten("line", written);
 }
 
 static void read_numbers(void) {
     const uint8_t bytes[] = {0xfd, 0xfd, 0, 0xfd, 0xfc, 0};
     turgamysk_number_answer answer = turgamysk_read_compact_size(bytes, sizeof bytes, 0);
-    printf("compact size %llu, then at %zu\n", (unsigned long long)answer.value, answer.position);
-    answer = turgamysk_read_compact_size(bytes, sizeof bytes, answer.position);
-    print_refusal("compact size", answer.number, answer.first, answer.second, answer.position);
+    printf("compact size %llu, then at %zu\n", (unsigned long long)answer.value, answer.stop.position);
+    answer = turgamysk_read_compact_size(bytes, sizeof bytes, answer.stop.position);
+    print_stop("compact size", answer.stop);
 }
 
 int main(void) {
+    if (!check_version()) {
+        return 1;
+    }
     hash();
     add_amounts();
     read_numbers();

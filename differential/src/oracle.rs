@@ -5,7 +5,7 @@ use hns_covenants::{Covenant, CovenantError, MAX_COVENANT_ENCODED_SIZE};
 use hns_encoding::{DecodeError, Decoder};
 use std::cell::Cell;
 use std::panic::{self, AssertUnwindSafe};
-use turgamysk::entries::{CovenantAnswer, Verdict};
+use turgamysk::entries::{CovenantAnswer, FlatStop, Verdict};
 
 /// A refusal: its number and what it carries, zeros where it carries less.
 pub type Refused = Verdict;
@@ -81,13 +81,12 @@ fn state_reason(reason: &str) -> usize {
 
 fn covenant_answer(verdict: Refused, position: usize) -> CovenantAnswer {
     CovenantAnswer {
-        verdict,
-        position,
+        stop: verdict.at(position),
         ..CovenantAnswer::default()
     }
 }
 
-/// A decoder that stands at a position; behind the end, where the original can't stand, document 01's refusal.
+/// A decoder that stands at a position; beyond the end, where the original can't stand, document 01's refusal.
 pub fn decoder_at(bytes: &[u8], position: usize) -> Result<Decoder<'_>, Refused> {
     let mut decoder = Decoder::new(bytes);
     match decoder.read_slice(position) {
@@ -98,15 +97,15 @@ pub fn decoder_at(bytes: &[u8], position: usize) -> Result<Decoder<'_>, Refused>
 
 fn accepted(covenant: &Covenant, position: usize) -> CovenantAnswer {
     CovenantAnswer {
-        position,
+        stop: FlatStop::passed(position),
         kind: covenant.kind.as_u8(),
         count: covenant.items.len(),
         used: covenant.encoded_size().expect("it was read"),
-        ..CovenantAnswer::default()
     }
 }
 
-/// `decode_from_with_limit` at a position, or under the largest allowance `decode_from`; and the covenant where it is accepted.
+/// `decode_from_with_limit` at a position, or under the largest allowance `decode_from`; and the covenant where it is
+/// accepted.
 pub fn covenant_decode_from(
     bytes: &[u8],
     position: usize,
@@ -134,7 +133,8 @@ pub fn covenant_read(bytes: &[u8], position: usize, limit: usize) -> CovenantAns
     covenant_decode_from(bytes, position, limit).0
 }
 
-/// `decode`, and the covenant where it is accepted. Its decoder is inside it: where it stands after a refusal is seen by reading again.
+/// `decode`, and the covenant where it is accepted. Its decoder is inside it: where it stands after a refusal is seen
+/// by reading again.
 pub fn covenant_decode(bytes: &[u8]) -> (CovenantAnswer, Option<Covenant>) {
     match guarded(|| Covenant::decode(bytes).map_err(|error| covenant_error(&error))) {
         Ok(covenant) => (accepted(&covenant, bytes.len()), Some(covenant)),

@@ -1,4 +1,5 @@
-//! The generator of the random cases: xoshiro256**, with its state filled by splitmix64. The same seed gives the same cases.
+//! The generator of the random cases: xoshiro256**, with its state filled by splitmix64. The same seed gives the same
+//! cases.
 
 pub struct Random {
     state: [u64; 4],

@@ -8,10 +8,11 @@ use std::time::{Duration, Instant};
 ///
 /// - `Unknown(3)`: a kind that reads back as another one, which can't be formed here;
 /// - `item_u8-empty`: the original panics on an empty item, also in the verifier;
-/// - `cursor-beyond`: a position behind the end, which the original can't have;
+/// - `cursor-beyond`: a position beyond the end, which the original can't have;
 /// - `no-room`: the original's `Encoder` grows, where a lent buffer is too short;
 /// - `bad-item`: a directory that leads outside its source, where the original has the items themselves;
-/// - `state-length`: a name or resource length that is longer than any bytes of the original's were made for the comparison.
+/// - `state-length`: a name or resource length that is longer than any bytes of the original's were made for the
+///   comparison.
 pub const KNOWN: [&str; 6] = [
     "Unknown(3)",
     "item_u8-empty",
@@ -83,7 +84,8 @@ impl Tally {
         }
     }
 
-    /// Compares one answer. `number` is the original's refusal, 0 where it accepts; `case` is only asked for where the answers differ.
+    /// Compares one answer. `number` is the original's refusal, 0 where it accepts; `case` is only asked for where the
+    /// answers differ.
     #[inline]
     pub fn compare<T: PartialEq + Debug>(
         &mut self,

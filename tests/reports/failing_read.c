@@ -1,4 +1,7 @@
-/* Loaded before the C library: the first read of each file that is opened gives what there is, and the next ones fail, as on a failing device. */
+/*
+ * Loaded before the C library: the first read of each file that is opened gives what there is, and the next ones fail,
+ * as on a failing device.
+ */
 #include <errno.h>
 #include <stddef.h>
 #include <sys/syscall.h>

@@ -21,8 +21,8 @@ class ProgramCase(unittest.TestCase):
         self.assertTrue((PROGRAMS / self.program).is_file(), f"{self.program} is not built: rt check {self.program}")
 
     def assert_line(self, line, files, before=None, **variables):
-        """With these files, by name, the program writes exactly this line, and nothing to its errors. `before` is done in its process before it runs,
-        and `variables` stand in its environment."""
+        """With these files, by name, the program writes exactly this line, and nothing to its errors. `before` is done
+        in its process before it runs, and `variables` stand in its environment."""
         with tempfile.TemporaryDirectory() as folder:
             for name, content in files.items():
                 lay(Path(folder) / name, content)

@@ -1,4 +1,5 @@
-"""The folders of samples/, which the front door can be tried on: writes them, or with --check holds them to what it would write.
+"""The folders of samples/, which the front door can be tried on: writes them, or with --check holds them to what it
+would write.
 
     python3 tests/reports/samples.py [--check]
 """

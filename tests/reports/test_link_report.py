@@ -1,4 +1,5 @@
-"""The link report on pairs of sheets: every row of the link table, every refusal that two sheets can reach, and what is asked of the files.
+"""The link report on pairs of sheets: every row of the link table, every refusal that two sheets can reach, and what is
+asked of the files.
 6 to 9 are refusals of names and states, 29 and 30 of writes; no sheet reaches them."""
 
 import unittest

@@ -1,4 +1,5 @@
-"""The name report on files of every class and refusal that a record can reach. 2 cannot be reached: no length in a record is near 2^64."""
+"""The name report on files of every class and refusal that a record can reach. 2 cannot be reached: no length in a
+record is near 2^64."""
 
 import unittest
 

@@ -89,7 +89,7 @@ REFUSALS = """\
 | 4 | `Pair` | `0`, `1` | two |
 """
 
-SUMMARY = "papers: 8 papers, 17 references, 2 must-fail edits, 4 refusals"
+SUMMARY = "papers: 8 papers, 17 references, 2 must-fail edits, 4 refusals, 0 constants"
 
 
 class CheckPapers(TreeCase):
@@ -216,6 +216,10 @@ class CheckPapers(TreeCase):
 
     def test_refusal_code_without_enum(self):
         self.assert_finds({"crates/refusal/src/lib.rt": "\n"}, "crates/refusal/src/lib.rt:1: no enum Refusal")
+
+    def test_header_without_its_constants(self):
+        header = "bindings/c/turgamysk.h"
+        self.assert_finds({header: "\n"}, f"{header}:1: no block of constants between its marks")
 
     def test_machine_folder(self):
         # Put together here, so that this file names no such folder itself.

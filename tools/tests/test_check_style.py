@@ -76,6 +76,38 @@ class CheckStyle(TreeCase):
                     [f"refused by {name}" for name in said], [line for line in lines if line not in RUNS][:-1]
                 )
 
+    def assert_widths(self, path, text, *found):
+        """In a file of this text alone the comments of these lines and columns are too wide."""
+        self.use({"REFUSING": ""})
+        _, lines = self.run_check({**dict.fromkeys(self.good), path: text})
+        (self.root / path).unlink()
+        told = [f"{path}:{number}: a comment of {columns} columns" for number, columns in found]
+        self.assertEqual(told, [line for line in lines if "columns" in line])
+        self.assertTrue(lines[-1].endswith(f", {len(found)} findings"), lines[-1])
+
+    def test_comments_that_are_too_wide(self):
+        words, wide = "x" * 100, "x" * 121
+        for path, mark in (("a.rt", "//"), ("a.rs", "//!"), ("a.c", "//"), ("a.h", "///"), ("a.antt", "--")):
+            with self.subTest(path):
+                fits = f"    {mark} {'x' * (115 - len(mark))}\n"
+                self.assertEqual(120, len(fits.rstrip("\n")))
+                self.assert_widths(path, fits)
+                self.assert_widths(path, f"code\n    {mark} {words}{words}\n", (2, 205 + len(mark)))
+                self.assert_widths(path, f"{wide} {mark} after code\n")
+        self.assert_widths("run", f"#!/bin/sh\n  # {wide}\n{wide} # after code\n", (2, 125))
+        self.assert_widths("notes", f"# {wide}\n")
+
+    def test_comments_over_lines(self):
+        wide = "x" * 121
+        block = f"/* {wide} */\nint {wide};\n  /*\n   * {wide}\n   */\n*{wide} = 1; /* {wide} */\n"
+        self.assert_widths("a.c", block, (1, 127), (4, 126))
+
+    def test_comments_of_python(self):
+        wide = "x" * 121
+        texts = f'"""One.\n\n{wide}\n"""\n# {wide}\nA = """{wide}\n# {wide}"""\nB = 1  # {wide}\n'
+        within = f'\n\ndef f():\n    """{wide}"""\n    return """{wide}"""\n'
+        self.assert_widths("a.py", texts + within, (3, 121), (5, 123), (12, 131))
+
     def test_nothing_to_judge(self):
         self.assert_passes(dict.fromkeys(self.good), "style: 0 runs, 0 findings")
 

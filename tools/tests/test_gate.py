@@ -1,5 +1,5 @@
-"""Tests of the gate's closing lines: .ci/run in a small repository, where every step but the laying of the original is a
-stand-in."""
+"""Tests of the gate's closing lines: .ci/run in a small repository, where every step but the laying of the original is
+a stand-in."""
 
 import hashlib
 import os
@@ -16,10 +16,13 @@ COMMANDS = {
     "cargo": "echo cargo 99.0.0",
     "python3": "",
     "cc": "",
+    "make": "",
+    "pkg-config": "",
     "shellcheck": "",
     "black": "",
 }
 STEPS = {
+    "bindings/build": "",
     "bindings/test": "echo bindings",
     "differential/run": "echo compared",
     "differential/record": "echo recorded",

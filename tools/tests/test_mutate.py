@@ -1,4 +1,5 @@
-"""Tests of tools/mutate.py: which changes it makes, and where, which of them one run judges, and what the prover's words mean for each."""
+"""Tests of tools/mutate.py: which changes it makes, and where, which of them one run judges, and what the prover's
+words mean for each."""
 
 import sys
 import tempfile

@@ -10,9 +10,11 @@ TOOLS = Path(__file__).resolve().parent.parent
 
 
 class TreeCase(unittest.TestCase):
-    """A case with a tree that passes, `good`, by the path of each file its text, and the script that is tried on it."""
+    """A case with a tree that passes, `good`, by the path of each file its text, and the script that is tried on it,
+    with the words before the tree's root."""
 
     script = ""
+    words = ()
     good = {}
 
     def setUp(self):
@@ -21,7 +23,8 @@ class TreeCase(unittest.TestCase):
         self.root = Path(folder.name)
 
     def run_check(self, changes):
-        """Runs the check on the good tree with changes, where None leaves a file out. Returns the status and the lines."""
+        """Runs the check on the good tree with changes, where None leaves a file out. Returns the status and the
+        lines."""
         for path, text in {**self.good, **changes}.items():
             file = self.root / path
             file.parent.mkdir(parents=True, exist_ok=True)
@@ -29,7 +32,7 @@ class TreeCase(unittest.TestCase):
                 file.unlink(missing_ok=True)
             else:
                 file.write_bytes(text if isinstance(text, bytes) else text.encode())
-        command = [sys.executable, "-B", str(TOOLS / self.script), str(self.root)]
+        command = [sys.executable, "-B", str(TOOLS / self.script), *self.words, str(self.root)]
         answer = subprocess.run(command, capture_output=True, text=True, encoding="utf-8")
         self.assertEqual(answer.stderr, "")
         return answer.returncode, answer.stdout.splitlines()

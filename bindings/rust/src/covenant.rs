@@ -33,17 +33,17 @@ kinds! {
 }
 
 impl CovenantKind {
-    /// Kinds 1 to 11.
+    /// Whether it is one of the kinds 1 to 11.
     pub fn is_name(self) -> bool {
         entries::is_name(self.0)
     }
 
-    /// Kinds 4 to 11.
+    /// Whether it is one of the kinds 4 to 11.
     pub fn is_linked(self) -> bool {
         entries::is_linked(self.0)
     }
 
-    /// Kind 11.
+    /// Whether it is kind 11.
     pub fn is_unspendable(self) -> bool {
         entries::is_unspendable(self.0)
     }
@@ -105,10 +105,11 @@ impl<'lent> Covenant<'lent> {
     pub const MAX_ITEMS: usize = 1000;
     /// The most bytes of an item.
     pub const MAX_ITEM_SIZE: usize = 1_000_000;
-    /// The most bytes of all.
+    /// The most bytes of a covenant.
     pub const MAX_ENCODED_SIZE: usize = 1_000_009;
 
-    /// The covenant that is all of the bytes. Its items go into the lent directory, with zeros after them; zeros alone where it is refused.
+    /// The covenant that is all of the bytes. Its items go into the lent directory, with zeros after them; zeros alone
+    /// where it is refused.
     ///
     /// ```
     /// use turgamysk::{Covenant, Directory, Refusal};
@@ -130,7 +131,8 @@ impl<'lent> Covenant<'lent> {
         })
     }
 
-    /// The covenant where the decoder stands, under the largest allowance, with its directory as [`Covenant::decode`] fills it; the decoder moves on.
+    /// The covenant where the decoder stands, under the largest allowance, with its directory as [`Covenant::decode`]
+    /// fills it; the decoder moves on.
     pub fn decode_from<'input: 'lent>(
         decoder: &mut Decoder<'input>,
         directory: &'lent mut Directory,
@@ -138,7 +140,8 @@ impl<'lent> Covenant<'lent> {
         Self::decode_from_with_limit(decoder, Self::MAX_ENCODED_SIZE, directory)
     }
 
-    /// The covenant where the decoder stands, under an allowance of `limit` bytes. The decoder moves on, to where it stands after a refusal too.
+    /// The covenant where the decoder stands, under an allowance of `limit` bytes. The decoder moves on, to where it
+    /// stands after a refusal too.
     ///
     /// ```
     /// use turgamysk::{Covenant, Decoder, Directory};
@@ -156,7 +159,7 @@ impl<'lent> Covenant<'lent> {
     ) -> Result<Self, Stop> {
         let source = decoder.input();
         let answer = entries::covenant_decode_from(source, decoder.position(), limit, directory);
-        decoder.stand_at(answer.position);
+        decoder.stand_at(answer.stop.position);
         let read = accepted(&answer)?;
         Ok(Self {
             kind: read.kind,
@@ -178,7 +181,7 @@ impl<'lent> Covenant<'lent> {
     /// ```
     pub fn read(decoder: &mut Decoder<'_>, limit: usize) -> Result<ReadCovenant, Stop> {
         let answer = entries::covenant_read(decoder.input(), decoder.position(), limit);
-        decoder.stand_at(answer.position);
+        decoder.stand_at(answer.stop.position);
         accepted(&answer)
     }
 
@@ -235,7 +238,7 @@ impl<'lent> Covenant<'lent> {
         exists.then_some(NameHash(hash))
     }
 
-    /// An item of the covenant where a decoder stands, found without a directory. Nothing behind the item is looked at.
+    /// An item of the covenant where a decoder stands, found without a directory. Nothing after the item is looked at.
     ///
     /// ```
     /// use turgamysk::{Covenant, Decoder};
@@ -251,7 +254,7 @@ impl<'lent> Covenant<'lent> {
 }
 
 fn accepted(answer: &CovenantAnswer) -> Result<ReadCovenant, Stop> {
-    answer.verdict.at(answer.position)?;
+    answer.stop.result()?;
     Ok(ReadCovenant {
         kind: CovenantKind(answer.kind),
         count: answer.count,

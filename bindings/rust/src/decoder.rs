@@ -5,7 +5,8 @@ use crate::refusal::Stop;
 
 /// Lent bytes and a position in them.
 ///
-/// A refused read leaves the decoder where hns-rs' stands: an unfinished fixed read at its start, a noncanonical compact size passed.
+/// A refused read leaves the decoder where hns-rs' stands: an unfinished fixed read at its start, a noncanonical
+/// compact size passed.
 ///
 /// ```
 /// use turgamysk::{Decoder, Refusal};
@@ -31,7 +32,8 @@ impl<'input> Decoder<'input> {
         Self { input, position: 0 }
     }
 
-    /// At any position, also behind the end: there every read is refused by 1.
+    /// At any position, also beyond the end: there every read is refused by
+    /// [`UnexpectedEnd`](crate::Refusal::UnexpectedEnd).
     pub const fn at(input: &'input [u8], position: usize) -> Self {
         Self { input, position }
     }
@@ -46,7 +48,7 @@ impl<'input> Decoder<'input> {
         self.position
     }
 
-    /// How many bytes are left; none behind the end.
+    /// How many bytes are left; none beyond the end.
     pub fn remaining(&self) -> usize {
         entries::remaining(self.input, self.position)
     }
@@ -75,13 +77,13 @@ impl<'input> Decoder<'input> {
         self.number(answer)
     }
 
-    /// A compact size; 4 in a longer form than it needs.
+    /// A compact size; [`InvalidValue`](crate::Refusal::InvalidValue) in a longer form than it needs.
     pub fn read_compact_size(&mut self) -> Result<u64, Stop> {
         let answer = entries::read_compact_size(self.input, self.position);
         self.number(answer)
     }
 
-    /// A compact size; 2 above `maximum`.
+    /// A compact size; [`LengthExceedsBound`](crate::Refusal::LengthExceedsBound) above `maximum`.
     pub fn read_compact_usize(&mut self, maximum: usize) -> Result<usize, Stop> {
         let answer = entries::read_compact_usize(self.input, self.position, maximum);
         self.number(answer).map(|value| value as usize)
@@ -93,7 +95,8 @@ impl<'input> Decoder<'input> {
         self.span(answer)
     }
 
-    /// The next `length` bytes; 2 above `maximum`. It is `read_bounded_vec` of hns-rs.
+    /// The next `length` bytes; [`LengthExceedsBound`](crate::Refusal::LengthExceedsBound) above `maximum`. It is
+    /// `read_bounded_vec` of hns-rs.
     pub fn read_bounded(&mut self, length: usize, maximum: usize) -> Result<&'input [u8], Stop> {
         let answer = entries::read_bounded(self.input, self.position, length, maximum);
         self.span(answer)
@@ -108,15 +111,14 @@ impl<'input> Decoder<'input> {
     /// The next 32 bytes.
     pub fn read_array(&mut self) -> Result<[u8; 32], Stop> {
         let mut array = [0; 32];
-        let answer = entries::read_array(self.input, self.position, &mut array);
-        self.position = answer.position;
-        answer.verdict.at(answer.position).map(|()| array)
+        let stop = entries::read_array(self.input, self.position, &mut array);
+        self.position = stop.position;
+        stop.result().map(|()| array)
     }
 
-    /// 3 where bytes are left.
+    /// Whether no bytes are left; [`TrailingBytes`](crate::Refusal::TrailingBytes) where some are.
     pub fn finish(self) -> Result<(), Stop> {
-        let answer = entries::finish(self.input, self.position);
-        answer.verdict.at(answer.position)
+        entries::finish(self.input, self.position).result()
     }
 
     pub(crate) fn stand_at(&mut self, position: usize) {
@@ -124,13 +126,13 @@ impl<'input> Decoder<'input> {
     }
 
     fn number(&mut self, answer: NumberAnswer) -> Result<u64, Stop> {
-        self.position = answer.position;
-        answer.verdict.at(answer.position).map(|()| answer.value)
+        self.position = answer.stop.position;
+        answer.stop.result().map(|()| answer.value)
     }
 
     fn span(&mut self, answer: SpanAnswer) -> Result<&'input [u8], Stop> {
-        self.position = answer.position;
-        answer.verdict.at(answer.position)?;
+        self.position = answer.stop.position;
+        answer.stop.result()?;
         Ok(&self.input[answer.start..][..answer.length])
     }
 }

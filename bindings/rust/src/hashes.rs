@@ -26,7 +26,7 @@ pub fn blake2b_256(message: &[u8]) -> Bytes32 {
     digest
 }
 
-/// [`blake2b_256`] of the 8 bytes of a value, the lowest first, and 32 bytes behind them.
+/// [`blake2b_256`] of the 8 bytes of a value, the lowest first, and of the 32 bytes after them.
 ///
 /// ```
 /// use turgamysk::{blake2b_256, blake2b_256_value_nonce};

@@ -1,7 +1,8 @@
-//! Turgamysk's C entries (`include/turgamysk.h`) as safe functions, under the names of hns-rs.
+//! Turgamysk's C entries (`bindings/c/turgamysk.h`) as safe functions, under the names of hns-rs.
 //!
-//! Every function takes any bytes and numbers and either accepts them or gives a [`Refusal`], which is a row of document 01's table. Nothing here
-//! allocates; where the C side fills a lent buffer, so does the function here. Nothing panics as long as the archive keeps what the header says.
+//! Every function takes any bytes and numbers and either accepts them or gives a [`Refusal`], which is a row of
+//! document 01's table. Nothing here allocates; where the C side fills a lent buffer, so does the function here.
+//! Nothing panics as long as the archive keeps what the header says.
 //!
 //! ```
 //! use turgamysk::{Covenant, CovenantKind, Directory, Refusal};
@@ -17,6 +18,10 @@
 //! ```
 //!
 //! [`entries`] has the same calls with the flat answers that cross the boundary.
+//!
+//! The archive is the one that `bindings/build` writes into `target/lib` of the clone, or the one in the folder that
+//! `TURGAMYSK_LIBRARY` names when the crate is built. [`version`] is its own number, and [`VERSION`] the one that this
+//! crate is for.
 
 #![no_std]
 #![deny(missing_docs)]
@@ -38,6 +43,7 @@ mod sheets;
 
 pub use covenant::{Covenant, CovenantKind, Directory, ReadCovenant};
 pub use decoder::Decoder;
+pub use entries::{VERSION, version};
 pub use hashes::{blake2b_256, blake2b_256_value_nonce, sha3_256};
 pub use lines::{link_line, name_line};
 pub use links::{CovenantLinkError, CovenantLinkSummary, verify_covenant_links};

@@ -3,8 +3,9 @@
 use crate::entries;
 use crate::refusal::Refusal;
 
-/// Writes the line of the link report of two sheets, its newline with it, into the first bytes of `out` and tells how many they are: at most 89. On a
-/// refusal nothing is written. That a sheet is refused is the line's to say; a sheet of more than 32,768 bytes is refused by 28, as in the report.
+/// Writes the line of the link report of two sheets, its newline with it, into the first bytes of `out` and tells how
+/// many they are: at most 89. On a refusal nothing is written. That a sheet is refused is the line's to say; a sheet of
+/// more than 32,768 bytes is refused by 28, as in the report.
 ///
 /// ```
 /// let mut out = [0; 89];

@@ -22,9 +22,9 @@ pub struct CovenantLinkSummary {
 pub struct CovenantLinkError {
     /// The row of the table, with what it carries.
     pub refusal: Refusal,
-    /// Which sheet a refusal 1 to 5, 27 or 28 is about: 0 the transaction's, 1 the coins'.
+    /// Which sheet is refused, where a sheet is (the numbers 1 to 5, 27 and 28): 0 the transaction's, 1 the coins'.
     pub side: Option<u8>,
-    /// In 12, the outpoint of the input and that of the coin.
+    /// In [`Refusal::CoinOutpointMismatch`], the outpoint of the input and that of the coin.
     pub outpoints: Option<(Outpoint, Outpoint)>,
 }
 
@@ -53,9 +53,10 @@ pub fn verify_covenant_links(
     coins: &[u8],
 ) -> Result<CovenantLinkSummary, CovenantLinkError> {
     let answer = entries::verify_covenant_links(transaction, coins);
-    let number = answer.verdict.number;
+    let number = answer.stop.number;
     answer
-        .verdict
+        .stop
+        .verdict()
         .result()
         .map_err(|refusal| CovenantLinkError {
             refusal,

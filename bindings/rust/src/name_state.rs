@@ -17,8 +17,9 @@ pub enum Class {
 
 /// The state of a name, which carries its name and resource bytes inside itself.
 ///
-/// The name is the first `name_length` bytes of `name`, the resource the first `resource_length` of `resource_data`. What stands behind them is
-/// ignored, by `==` too; bytes past an array count as zeros, and the writer refuses such a length.
+/// The name is the first `name_length` bytes of `name`, the resource the first `resource_length` of `resource_data`.
+/// What stands after them is ignored, by `==` too; bytes past an array count as zeros, and the writer refuses such a
+/// length.
 #[repr(C)]
 #[derive(Clone, Copy, Debug)]
 pub struct NameState {
@@ -95,7 +96,7 @@ impl NameState {
     /// ```
     pub fn decode(name_hash: &NameHash, record: &[u8]) -> Result<Self, Stop> {
         let answer = entries::name_state_decode(&name_hash.0, record);
-        answer.verdict.at(answer.position).map(|()| answer.state)
+        answer.stop.result().map(|()| answer.state)
     }
 
     /// Writes the record into the first bytes of `dest` and tells how many they are; on a refusal nothing is written.
@@ -113,7 +114,7 @@ impl NameState {
         entries::name_state_encode(self, dest).result()
     }
 
-    /// How many bytes [`NameState::encode`] writes, or why it does not.
+    /// How many bytes [`NameState::encode`] writes, or why it does not, room apart.
     pub fn encoded_size(&self) -> Result<usize, Refusal> {
         entries::name_state_encoded_size(self).result()
     }
@@ -138,12 +139,14 @@ impl NameState {
         answer.held.then_some(answer.outpoint)
     }
 
-    /// Which fields the record shows, by bit: 0 owner, 1 value, 2 highest, 3 transfer, 4 revoked, 5 claimed, 6 renewals, 7 registered, 8 expired, 9 weak.
+    /// Which fields the record shows, by bit: 0 owner, 1 value, 2 highest, 3 transfer, 4 revoked, 5 claimed,
+    /// 6 renewals, 7 registered, 8 expired, 9 weak.
     pub fn bitmap(&self) -> u16 {
         entries::name_state_bitmap(self)
     }
 
-    /// Whether the key is the hash of the name, unless the state is null: 6 where the name is no name, 9 where the key is not its hash.
+    /// Whether the key is the hash of the name, unless the state is null: [`Refusal::InvalidName`] where the name is no
+    /// name, [`Refusal::NameStateHashMismatch`] where the key is not its hash.
     ///
     /// ```
     /// use turgamysk::{Height, NameHash, NameState, Refusal};

@@ -4,7 +4,8 @@ use crate::entries::{self, Bytes32};
 use crate::primitives::{Dollarydoos, NameHash};
 use crate::refusal::Refusal;
 
-/// Whether the bytes are a name: 1 to 63 of 0-9 and a-z, with `-` and `_` neither first nor last, and none of the five reserved words.
+/// Whether the bytes are a name: 1 to 63 of 0-9 and a-z, with `-` and `_` neither first nor last, and none of the five
+/// reserved words.
 ///
 /// ```
 /// assert!(turgamysk::validate_name(b"a-b"));
@@ -15,7 +16,7 @@ pub fn validate_name(name: &[u8]) -> bool {
     entries::validate_name(name) == 0
 }
 
-/// The SHA3-256 of a name; 6 where the bytes are none.
+/// The SHA3-256 of a name; [`Refusal::InvalidName`] where the bytes are none.
 ///
 /// ```
 /// use turgamysk::{NameHash, Refusal, hash_name, sha3_256};

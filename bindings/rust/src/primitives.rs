@@ -122,8 +122,8 @@ impl Outpoint {
     /// The hash, and then the index in four bytes, the lowest first.
     pub fn decode(decoder: &mut Decoder<'_>) -> Result<Self, Stop> {
         let answer = entries::outpoint_decode(decoder.input(), decoder.position());
-        decoder.stand_at(answer.position);
-        answer.verdict.at(answer.position).map(|()| answer.outpoint)
+        decoder.stand_at(answer.stop.position);
+        answer.stop.result().map(|()| answer.outpoint)
     }
 
     /// The 36 bytes that [`Outpoint::decode`] reads.

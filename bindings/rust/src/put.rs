@@ -1,6 +1,6 @@
 //! Writes into lent bytes, as hns-encoding's `Encoder` has them: each from an offset on, all of it or nothing.
 //!
-//! Each tells how many bytes it wrote; 29 carries how many there would have been.
+//! Each tells how many bytes it wrote; [`Refusal::NoRoom`] carries how many there would have been.
 //!
 //! ```
 //! use turgamysk::{Refusal, put};
@@ -45,7 +45,7 @@ pub fn put_bytes(dest: &mut [u8], at: usize, value: &[u8]) -> Result<usize, Refu
     entries::put_bytes(dest, at, value).result()
 }
 
-/// Bytes behind their length.
+/// Bytes after their length.
 pub fn put_varbytes(dest: &mut [u8], at: usize, value: &[u8]) -> Result<usize, Refusal> {
     entries::put_varbytes(dest, at, value).result()
 }

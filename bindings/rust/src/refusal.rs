@@ -59,8 +59,8 @@ macro_rules! table {
                 carried
             }
 
-            /// The refusal of a number and of what it carries; none for a number that is not in the table, a part that is too wide for
-            /// its field, or an unused part that is not zero.
+            /// The refusal of a number and of what it carries; none for a number that is not in the table, a part that
+            /// is too wide for its field, or an unused part that is not zero.
             pub fn from_parts(number: u8, carried: [usize; 3]) -> Option<Self> {
                 let mut parts = carried.into_iter();
                 let refusal = match number {
@@ -133,7 +133,8 @@ impl Error for Refusal {}
 pub struct Stop {
     /// Why.
     pub refusal: Refusal,
-    /// Where the reader stands: an unfinished fixed read stays at its start, a noncanonical compact size has been passed.
+    /// Where the reader stands: an unfinished fixed read stays at its start, a noncanonical compact size has been
+    /// passed.
     pub position: usize,
 }
 

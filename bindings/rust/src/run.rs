@@ -17,7 +17,7 @@ impl From<RunAnswer> for RunEnd {
     fn from(answer: RunAnswer) -> Self {
         Self {
             count: answer.covenants,
-            stop: answer.verdict.at(answer.position).err(),
+            stop: answer.stop.result().err(),
         }
     }
 }
@@ -88,13 +88,13 @@ impl Iterator for Run<'_> {
             return None;
         }
         let step = self.step();
-        self.is_over = step.ended || step.verdict.number != 0;
-        self.position = step.position;
+        self.is_over = step.ended || step.stop.number != 0;
+        self.position = step.stop.position;
         self.count = step.covenants;
         if step.ended {
             return None;
         }
-        Some(step.verdict.at(step.position).map(|()| ReadCovenant {
+        Some(step.stop.result().map(|()| ReadCovenant {
             kind: CovenantKind(step.kind),
             count: step.count,
             used: step.used,

@@ -36,7 +36,7 @@ impl Error for SheetStop {}
 
 fn counts(answer: &SheetAnswer) -> Result<TransactionCounts, SheetStop> {
     let side = answer.side;
-    let verdict = answer.verdict.result();
+    let verdict = answer.stop.verdict().result();
     verdict.map_err(|refusal| SheetStop { refusal, side })?;
     Ok(TransactionCounts {
         inputs: answer.inputs,
@@ -88,14 +88,16 @@ pub struct Place {
     pub kind: CovenantKind,
 }
 
-/// The input, or the outpoint of the coin, where the decoder stands in a sheet; the decoder moves on. The index has the highest byte first.
+/// The input, or the outpoint of the coin, where the decoder stands in a sheet; the decoder moves on. The index has the
+/// highest byte first.
 pub fn input_at(decoder: &mut Decoder<'_>) -> Result<Outpoint, Stop> {
     let answer = entries::sheet_input_at(decoder.input(), decoder.position());
-    decoder.stand_at(answer.position);
-    answer.verdict.at(answer.position).map(|()| answer.outpoint)
+    decoder.stand_at(answer.stop.position);
+    answer.stop.result().map(|()| answer.outpoint)
 }
 
-/// The output, or what follows the outpoint of the coin, where the decoder stands in a sheet; the decoder moves on. 27 carries `side`.
+/// The output, or what follows the outpoint of the coin, where the decoder stands in a sheet; the decoder moves on.
+/// [`Refusal::SheetField`] carries `side`.
 ///
 /// ```
 /// use turgamysk::{Decoder, Refusal, place_at};
@@ -110,8 +112,8 @@ pub fn input_at(decoder: &mut Decoder<'_>) -> Result<Outpoint, Stop> {
 /// ```
 pub fn place_at(decoder: &mut Decoder<'_>, side: u8) -> Result<Place, Stop> {
     let answer = entries::sheet_place_at(decoder.input(), decoder.position(), side);
-    decoder.stand_at(answer.position);
-    answer.verdict.at(answer.position)?;
+    decoder.stand_at(answer.stop.position);
+    answer.stop.result()?;
     Ok(Place {
         value: Dollarydoos(answer.value),
         version: answer.version,
@@ -122,8 +124,8 @@ pub fn place_at(decoder: &mut Decoder<'_>, side: u8) -> Result<Place, Stop> {
     })
 }
 
-/// The bytes of one item, inside the sheet of its side: of an output on side 0, of a coin on side 1. None also for another side, or if either
-/// sheet is refused.
+/// The bytes of one item, inside the sheet of its side: of an output on side 0, of a coin on side 1. None also for
+/// another side, or if either sheet is refused.
 ///
 /// ```
 /// let transaction = [0x10, 0, 0, 0x40, 0, 0, 0, 0, 0, 0, 0, 0, 0, 0, 0, 1, 1, 0xaa];

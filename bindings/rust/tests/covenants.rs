@@ -264,7 +264,8 @@ fn a_write_takes_all_its_room_or_none() {
     assert_eq!(exact, *b"\x03\x01\x03abc");
 }
 
-/// What is read where the decoder stands; with a directory the same is read, its items are laid out, and zeros follow them.
+/// What is read where the decoder stands; with a directory the same is read, its items are laid out, and zeros follow
+/// them.
 fn read(decoder: &mut Decoder<'_>, limit: usize) -> Result<ReadCovenant, Stop> {
     let mut again = *decoder;
     let found = Covenant::read(decoder, limit);

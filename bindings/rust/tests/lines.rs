@@ -9,7 +9,7 @@ const COINS: [u8; 4] = [0x14, 0, 0, 0];
 /// The most bytes of a sheet that the link report reads.
 const LONGEST: usize = 32_768;
 
-/// What is written into a long buffer, and that nothing is written behind it.
+/// What is written into a long buffer, and that nothing is written after it.
 fn line(write: impl Fn(&mut [u8]) -> Result<usize, Refusal>) -> String {
     let mut out = [0xee; 200];
     let size = write(&mut out).unwrap();

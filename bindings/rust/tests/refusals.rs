@@ -1,4 +1,5 @@
-//! The smallest inputs of docs/REFUSALS.md: each row is read from the page and asked for, and the answer is the one that stands there.
+//! The smallest inputs of docs/REFUSALS.md: each row is read from the page and asked for, and the answer is the one
+//! that stands there.
 
 use turgamysk::{
     Covenant, CovenantKind, Decoder, Directory, NameHash, NameState, Refusal, hash_name,

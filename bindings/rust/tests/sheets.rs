@@ -206,8 +206,7 @@ fn numbers_of_a_record_have_the_highest_byte_first() {
 fn refused_place(sheet: &[u8], position: usize, side: u8) -> (Refusal, usize) {
     let answer = entries::sheet_place_at(sheet, position, side);
     let zeros = PlaceAnswer {
-        verdict: answer.verdict,
-        position: answer.position,
+        stop: answer.stop,
         ..PlaceAnswer::default()
     };
     assert_eq!(answer, zeros, "zeros where it is refused");
@@ -283,4 +282,15 @@ fn the_covenant_of_a_record_is_refused_by_its_codec() {
     sheet[11..].copy_from_slice(&[0xfd, 0xfc, 0]);
     let form = Refusal::InvalidValue { width: 16 };
     assert_eq!(refused_place(&sheet, 0, 1), (form, 14));
+}
+
+#[test]
+fn sheets_that_are_judged_whole_tell_no_position() {
+    let whole = transaction();
+    for sheet in [&whole[..], &whole[..5], &[0x14, 0, 0, 0], &[]] {
+        assert_eq!(entries::judge_transaction(sheet).stop.position, 0);
+        assert_eq!(entries::judge_coins(sheet).stop.position, 0);
+        let answer = entries::verify_covenant_links(&whole, sheet);
+        assert_eq!(answer.stop.position, 0);
+    }
 }

@@ -8,7 +8,7 @@ use lib.ListN.{length, take, drop, replicate, drop-of-length-le, length-append}
 use lib.Seq.{drop-drop, drop-append-le, take-at, drop-at}
 use Rattle.words.specs.Words.{le, bytes, lanes}
 use Rattle.words.proofs.Le.{le-bytes, length-bytes}
-use Rattle.blake2b.specs.Blake2b.{F, blocks, padded, block, first, chain, final}
+use Rattle.blake2b.specs.Blake2b.{F, blocks, wholeBlocks, block, first, chain, final}
 use Rattle.words.proofs.Lanes.{lanes-zeros}
 
 blocks-is : (n : ℕ) → blocks n ≡ (n - 1) / 128 + 1
@@ -18,7 +18,7 @@ blocks-is (suc n) = omega arith
 
 -- padding changes no word
 block-is : (m : List ℕ) (at : ℕ) → at % 128 ≡ 0 → at ≤ length m → lanes 16 (drop at m) ≡ block m (at / 128)
-unfolding padded block
+unfolding wholeBlocks block
 block-is m at e h =
     let k : ℕ = 128 * blocks (length m) - length m in
     let n : 128 * (at / 128) ≡ at = omega arith in

@@ -1,5 +1,6 @@
 -- BLAKE2b (RFC 7693), with no key and a result of 32 bytes, in the order of the RFC's sections.
--- 2.1: words of 64 bits, 12 rounds, blocks of 128 bytes, rotations by 32, 24, 16 and 63; kk = 0, nn = 32. A word is a number below 2 ^ 64.
+-- 2.1: words of 64 bits, 12 rounds, blocks of 128 bytes, rotations by 32, 24, 16 and 63; kk = 0, nn = 32. A word is a
+-- number below 2 ^ 64.
 use Prim.Native.Nat.{ℕ, zero, suc, _+_, _-_, _*_, _/_, _%_, _^_}
 use mathlib.Core.Bool.{Bool, true, false}
 use mathlib.Core.List.{List, [], _∷_, _++_}
@@ -129,12 +130,12 @@ blocks zero = 1
 blocks (suc n) = (suc n + 127) / 128
 
 -- the message with zeros after it, to whole blocks
-unfoldable pub padded : List ℕ → List ℕ
-padded m = m ++ replicate (128 * blocks (length m) - length m) 0
+unfoldable pub wholeBlocks : List ℕ → List ℕ
+wholeBlocks m = m ++ replicate (128 * blocks (length m) - length m) 0
 
 -- d[i], the sixteen words of a block (2.4: a word is eight bytes, the lowest first)
 unfoldable pub block : List ℕ → ℕ → List ℕ
-block m i = lanes 16 (drop (128 * i) (padded m))
+block m i = lanes 16 (drop (128 * i) (wholeBlocks m))
 
 -- h before the first block
 abbrev pub first : List ℕ

@@ -1,4 +1,5 @@
--- Words of private functions only: a round as the code runs it: G on the four columns, and the diagonals turned into columns and back.
+-- Words of private functions only: a round as the code runs it: G on the four columns, and the diagonals turned into
+-- columns and back.
 use Prim.Native.Nat.{ℕ, _+_, _<_}
 use mathlib.Core.List.{List, [], _∷_}
 use lib.ListN.{getD}

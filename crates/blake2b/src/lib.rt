@@ -112,8 +112,8 @@ fn join(a: [u64; 4], b: [u64; 4], c: [u64; 4], d: [u64; 4]) -> [u64; 16]
     ]
 }
 
-// G on each column of v, with the eight words that the row s names from `at` on. The first lines of all four come before the
-// last lines of any, so that the processor works on the four at once.
+// G on each column of v, with the eight words that the row s names from `at` on. The first lines of all four come
+// before the last lines of any, so that the processor works on the four at once.
 fn mix(m: &[u64; 16], s: &[u8; 16], at: usize, v: [u64; 16]) -> [u64; 16]
     requires { ⌜ (at ≤ 8) × Row (now s) ⌝ }
     ensures { λ w. ⌜ w ≡ four (now (m .entry)) (now (s .entry)) at v ⌝ }
@@ -322,7 +322,8 @@ pub fn blake2b_256(m: &[u8]) -> [u8; 32]
     squeeze(h)
 }
 
-// The hash of the eight bytes of a value and a nonce after them, which are one block: it is made with no copy of the bytes.
+// The hash of the eight bytes of a value and a nonce after them, which are one block: it is made with no copy of the
+// bytes.
 pub fn blake2b_256_value_nonce(value: u64, nonce: &[u8; 32]) -> [u8; 32]
     ensures { λ r. ⌜ r ≡ blake2b (bytes 8 value ++ now (nonce .entry)) ⌝ }
 {

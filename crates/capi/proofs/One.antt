@@ -3,6 +3,7 @@ use mathlib.Core.Path.{_≡_}
 use Prim.Native.Nat.{ℕ}
 use mathlib.Core.Bool.{Bool}
 use mathlib.Core.List.{List, [], _++_}
+use mathlib.Core.Option.{Option}
 use Rattle.words.specs.Words.{bytes}
 use Rattle.words.specs.Buffers.{pick, laid}
 use Rattle.words.proofs.One.{one, one-each}
@@ -11,13 +12,13 @@ use Rattle.blake2b.specs.Blake2b.{blake2b}
 use Rattle.refusal.specs.Outcome.{Outcome}
 use Rattle.covenants.specs.Covenant.{Reading, skimmed, covenantAt, wholeCovenant}
 use Rattle.encoding.specs.Wire.{remainingAt, sliceAt, bytesAt, fixedAt, compactAt, compactMost, boundedAt, varbytesAt, finishAt, compact, compactSize, varbytes, putAnswer}
-use Rattle.encoding.specs.Paper.{shown}
+use Rattle.encoding.specs.Paper.{shownBytes}
 use Rattle.primitives.specs.Units.{sumOf, differenceOf}
 use Rattle.primitives.specs.Outpoints.{sameOutpoint, isNull, outpointBytes, outpointAt, shownOutpoint}
 use Rattle.primitives.specs.declared.Outpoint.{Outpoint}
 use Rattle.covenants.specs.Kind.{isName, isLinked, isUnspendable}
 use Rattle.covenants.specs.Written.{sizeAnswer, encodeAnswer, encodeContent}
-use Rattle.covenants.specs.Items.{Maybe, directoryItem, seekAt, wide, numberIn}
+use Rattle.covenants.specs.Items.{directoryItem, seekAt, ofWidth, numberIn}
 use Rattle.runs.specs.Run.{runSaid}
 use Rattle.runs.specs.Covenants.{defaultAllowance, covenantRun, covenantStep}
 use Rattle.covenants.specs.Paper as items
@@ -41,11 +42,13 @@ use Rattle.capi.specs.Amounts.{amountFlat}
 use Rattle.capi.specs.declared.amounts.AmountAnswer.{AmountAnswer}
 use Rattle.capi.specs.Linkage.{linksFlat}
 use Rattle.capi.specs.declared.linkage.LinksAnswer.{LinksAnswer}
-use Rattle.capi.specs.Flat.{covenantFlat, writeFlat}
+use Rattle.capi.specs.Flat.{movedFlat, covenantFlat, writeFlat}
 use Rattle.capi.specs.States.{stateFlat, ownerFlat}
 use Rattle.capi.specs.Sheet.{sheetFlat, outputFlat, viewFlat}
-use Rattle.capi.specs.Reading.{numberFlat, spanFlat, movedFlat, outpointFlat}
+use Rattle.capi.specs.Reading.{numberFlat, spanFlat, outpointFlat}
 use Rattle.capi.specs.Items.{stepFlat, runFlat, placeFlat, itemFlat}
+use Rattle.capi.specs.Version.{version}
+use Rattle.capi.specs.declared.FlatStop.{FlatStop}
 use Rattle.capi.specs.declared.CovenantAnswer.{CovenantAnswer}
 use Rattle.capi.specs.declared.WriteAnswer.{WriteAnswer}
 use Rattle.capi.specs.declared.states.StateAnswer.{StateAnswer}
@@ -55,11 +58,13 @@ use Rattle.capi.specs.declared.sheet.PlaceAnswer.{PlaceAnswer}
 use Rattle.capi.specs.declared.sheet.ViewAnswer.{ViewAnswer}
 use Rattle.capi.specs.declared.wire.NumberAnswer.{NumberAnswer}
 use Rattle.capi.specs.declared.wire.SpanAnswer.{SpanAnswer}
-use Rattle.capi.specs.declared.wire.MovedAnswer.{MovedAnswer}
 use Rattle.capi.specs.declared.wire.OutpointAnswer.{OutpointAnswer}
 use Rattle.capi.specs.declared.items.StepAnswer.{StepAnswer}
 use Rattle.capi.specs.declared.items.RunAnswer.{RunAnswer}
 use Rattle.capi.specs.declared.items.ItemAnswer.{ItemAnswer}
+
+pub turgamysk-version-one : {r r′ : ℕ} → r ≡ version → r′ ≡ version → r ≡ r′
+turgamysk-version-one = one
 
 pub turgamysk-sha3-256-one : (m : List ℕ) {d d′ : List ℕ} → d ≡ sha3 m → d′ ≡ sha3 m → d ≡ d′
 turgamysk-sha3-256-one m = one
@@ -188,12 +193,12 @@ module _ (s : List ℕ) (at : ℕ) where
   pub turgamysk-read-varbytes-one : (maximum : ℕ) {r r′ : SpanAnswer} → r ≡ spanFlat (varbytesAt maximum s at) → r′ ≡ spanFlat (varbytesAt maximum s at) → r ≡ r′
   turgamysk-read-varbytes-one maximum = one
 
-  pub turgamysk-read-array-one : {r r′ : MovedAnswer} {a a′ : List ℕ}
-      → (r ≡ movedFlat (shown 32 (bytesAt 32 s at) .0)) × (a ≡ shown 32 (bytesAt 32 s at) .1)
-      → (r′ ≡ movedFlat (shown 32 (bytesAt 32 s at) .0)) × (a′ ≡ shown 32 (bytesAt 32 s at) .1) → (r ≡ r′) × (a ≡ a′)
+  pub turgamysk-read-array-one : {r r′ : FlatStop} {a a′ : List ℕ}
+      → (r ≡ movedFlat (shownBytes 32 (bytesAt 32 s at) .0)) × (a ≡ shownBytes 32 (bytesAt 32 s at) .1)
+      → (r′ ≡ movedFlat (shownBytes 32 (bytesAt 32 s at) .0)) × (a′ ≡ shownBytes 32 (bytesAt 32 s at) .1) → (r ≡ r′) × (a ≡ a′)
   turgamysk-read-array-one = one-each
 
-  pub turgamysk-finish-one : {r r′ : MovedAnswer} → r ≡ movedFlat (finishAt s at) → r′ ≡ movedFlat (finishAt s at) → r ≡ r′
+  pub turgamysk-finish-one : {r r′ : FlatStop} → r ≡ movedFlat (finishAt s at) → r′ ≡ movedFlat (finishAt s at) → r ≡ r′
   turgamysk-finish-one = one
 
   pub turgamysk-outpoint-decode-one : {r r′ : OutpointAnswer} → r ≡ outpointFlat (shownOutpoint (outpointAt s at)) → r′ ≡ outpointFlat (shownOutpoint (outpointAt s at)) → r ≡ r′
@@ -284,7 +289,7 @@ module _ (source starts lens : List ℕ) (count : ℕ) where
   turgamysk-covenant-encoded-size-one = one
 
   module _ (index : ℕ) where
-    abbrev Item : Maybe (ℕ × ℕ)
+    abbrev Item : Option (ℕ × ℕ)
     Item = directoryItem source starts lens count index
 
     pub turgamysk-covenant-item-one : {r r′ : ViewAnswer} → r ≡ placeFlat Item → r′ ≡ placeFlat Item → r ≡ r′
@@ -300,8 +305,8 @@ module _ (source starts lens : List ℕ) (count : ℕ) where
     turgamysk-covenant-item-u64-one = one
 
     pub turgamysk-covenant-item-name-hash-one : {r r′ : Bool} {h h′ : List ℕ}
-        → (r ≡ items.shownHash (wide 32 source Item) .0) × (h ≡ items.shownHash (wide 32 source Item) .1)
-        → (r′ ≡ items.shownHash (wide 32 source Item) .0) × (h′ ≡ items.shownHash (wide 32 source Item) .1) → (r ≡ r′) × (h ≡ h′)
+        → (r ≡ items.shownItemHash (ofWidth 32 source Item) .0) × (h ≡ items.shownItemHash (ofWidth 32 source Item) .1)
+        → (r′ ≡ items.shownItemHash (ofWidth 32 source Item) .0) × (h′ ≡ items.shownItemHash (ofWidth 32 source Item) .1) → (r ≡ r′) × (h ≡ h′)
     turgamysk-covenant-item-name-hash-one = one-each
 
 module _ (kind : ℕ) where

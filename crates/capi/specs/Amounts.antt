@@ -1,4 +1,5 @@
--- Sums and differences of amounts as flat structs: an amount, or 1 for an overflow and 2 for an underflow. "Unused parts of an answer are zeros".
+-- Sums and differences of amounts as flat structs: an amount, or 1 for an overflow and 2 for an underflow. "Unused
+-- parts of an answer are zeros".
 use Rattle.primitives.specs.declared.Checked.{Checked}
 use Rattle.capi.specs.declared.amounts.AmountAnswer.{AmountAnswer}
 

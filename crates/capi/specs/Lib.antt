@@ -5,3 +5,4 @@ pub mod Sheet
 pub mod Reading
 pub mod Items
 pub mod Linkage
+pub mod Version

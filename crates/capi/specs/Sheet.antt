@@ -1,30 +1,27 @@
 -- Answers over sheets and the item viewer as flat structs.
 use Prim.Native.Nat.{ℕ}
 use mathlib.Core.Bool.{true, false}
-use mathlib.Core.List.{List}
-use lib.ListN.{getD}
+use mathlib.Core.List.{[]}
 use Rattle.refusal.specs.Outcome.{positionOf, Outcome, ok, err}
 use Rattle.sheets.specs.Sheet.{Judged, whole, refused}
 use Rattle.sheets.specs.Viewer.{View, inTransaction, inCoins, nowhere}
+use Rattle.capi.specs.Flat.{stopFlat}
 use Rattle.capi.specs.declared.sheet.SheetAnswer.{SheetAnswer}
 use Rattle.sheets.specs.declared.Place.{Place}
 use Rattle.capi.specs.declared.sheet.PlaceAnswer.{PlaceAnswer}
 use Rattle.capi.specs.declared.sheet.ViewAnswer.{ViewAnswer}
 
--- the counts of a sheet that is accepted; the side is told only where it is refused
+-- the counts of a sheet that is accepted; the side is told only where it is refused. The position is always 0:
+-- "A refused read, sheets apart, also returns the position"
 abbrev pub sheetFlat : Judged (ℕ × ℕ) → SheetAnswer
-sheetFlat (whole counts) = record { number = 0; first = 0; second = 0; third = 0; side = 0; inputs = counts .0; outputs = counts .1 }
-sheetFlat (refused k vs side) = record { number = k; first = getD vs 0 0; second = getD vs 1 0; third = getD vs 2 0; side = side; inputs = 0; outputs = 0 }
+sheetFlat (whole counts) = record { stop = stopFlat 0 [] 0; side = 0; inputs = counts .0; outputs = counts .1 }
+sheetFlat (refused k vs side) = record { stop = stopFlat k vs 0; side = side; inputs = 0; outputs = 0 }
 
--- where an output stands, or a coin behind its outpoint; and the position behind it
+-- where an output stands, or a coin after its outpoint; and the position after it
 abbrev pub outputFlat : Outcome Place → PlaceAnswer
 outputFlat (ok place p) =
     record {
-      number = 0;
-      first = 0;
-      second = 0;
-      third = 0;
-      position = p;
+      stop = stopFlat 0 [] p;
       value = place .value .0;
       version = place .address .version;
       start = place .address .start;
@@ -34,11 +31,7 @@ outputFlat (ok place p) =
     }
 outputFlat (err k vs p) =
     record {
-      number = k;
-      first = getD vs 0 0;
-      second = getD vs 1 0;
-      third = getD vs 2 0;
-      position = positionOf p;
+      stop = stopFlat k vs (positionOf p);
       value = 0;
       version = 0;
       start = 0;

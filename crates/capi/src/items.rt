@@ -1,6 +1,9 @@
 // Covenants back to back, single items of a covenant, and kinds.
+use crate::FlatStop;
 use crate::WriteAnswer;
+use crate::passed;
 use crate::sheet::ViewAnswer;
+use crate::stopped;
 use crate::write_answer;
 use covenants::items::ItemU8;
 use covenants::items::ItemU32;
@@ -17,8 +20,6 @@ use covenants::kind::is_name;
 use covenants::kind::is_unspendable;
 use covenants::write::encoded_size;
 use encoding::read::Cursor;
-use refusal::carried_by;
-use refusal::number;
 use runs::Run;
 use runs::RunEnd;
 use runs::Step;
@@ -27,24 +28,21 @@ use runs::read_run;
 use runs::read_run_with_limit;
 ghost use mathlib.Core.Path.{_≡_};
 ghost use mathlib.Core.Bool.{true, false};
+ghost use mathlib.Core.Option.{some, none};
 ghost use Rattle.covenants.specs.Kind.{isName, isLinked, isUnspendable};
 ghost use Rattle.covenants.specs.Written.{sizeAnswer};
-ghost use Rattle.covenants.specs.Items.{there, absent, directoryItem, seekAt, wide, numberIn};
-ghost use Rattle.covenants.specs.Paper.{spotPaper, shownHash};
+ghost use Rattle.covenants.specs.Items.{directoryItem, seekAt, ofWidth, numberIn};
+ghost use Rattle.covenants.specs.Paper.{spotPaper, shownItemHash};
 ghost use Rattle.runs.specs.Run.{runSaid};
 ghost use Rattle.runs.specs.Covenants.{defaultAllowance, covenantRun, covenantStep};
-ghost use Rattle.runs.specs.Paper.{stepPaper, runEndPaper};
+ghost use Rattle.runs.specs.Paper.{runStepPaper, runEndPaper};
 ghost use Rattle.capi.specs.Flat.{writeFlat};
 ghost use Rattle.capi.specs.Items.{stepFlat, runFlat, placeFlat, itemFlat};
 
 // A covenant of a run, or how the run ended; and how many covenants there were up to here.
 #[repr(C)]
 pub struct StepAnswer {
-    pub number: u8,
-    pub first: usize,
-    pub second: usize,
-    pub third: usize,
-    pub position: usize,
+    pub stop: FlatStop,
     pub ended: bool,
     pub kind: u8,
     pub count: usize,
@@ -55,11 +53,7 @@ pub struct StepAnswer {
 // How a run ended, and how many covenants it had.
 #[repr(C)]
 pub struct RunAnswer {
-    pub number: u8,
-    pub first: usize,
-    pub second: usize,
-    pub third: usize,
-    pub position: usize,
+    pub stop: FlatStop,
     pub covenants: usize,
 }
 
@@ -71,7 +65,7 @@ pub struct ItemAnswer {
 }
 
 fn step_answer(step: Step) -> StepAnswer
-    ensures { λ r. ⌜ r ≡ stepFlat (stepPaper step) ⌝ }
+    ensures { λ r. ⌜ r ≡ stepFlat (runStepPaper step) ⌝ }
 {
     match step {
         Step::Covenant {
@@ -82,11 +76,7 @@ fn step_answer(step: Step) -> StepAnswer
         } => {
             let cursor = run.cursor;
             StepAnswer {
-                number: 0,
-                first: 0,
-                second: 0,
-                third: 0,
-                position: cursor.position,
+                stop: passed(cursor.position),
                 ended: false,
                 kind,
                 count,
@@ -95,33 +85,21 @@ fn step_answer(step: Step) -> StepAnswer
             }
         }
         Step::Ended(count) => StepAnswer {
-            number: 0,
-            first: 0,
-            second: 0,
-            third: 0,
-            position: 0,
+            stop: passed(0),
             ended: true,
             kind: 0,
             count: 0,
             used: 0,
             covenants: count,
         },
-        Step::Refused { stop, count } => {
-            let refusal = stop.refusal;
-            let carried = carried_by(refusal);
-            StepAnswer {
-                number: number(refusal),
-                first: carried.first,
-                second: carried.second,
-                third: carried.third,
-                position: stop.position,
-                ended: false,
-                kind: 0,
-                count: 0,
-                used: 0,
-                covenants: count,
-            }
-        }
+        Step::Refused { stop, count } => StepAnswer {
+            stop: stopped(stop),
+            ended: false,
+            kind: 0,
+            count: 0,
+            used: 0,
+            covenants: count,
+        },
     }
 }
 
@@ -130,25 +108,13 @@ fn run_answer(end: RunEnd) -> RunAnswer
 {
     match end {
         RunEnd::Ended(count) => RunAnswer {
-            number: 0,
-            first: 0,
-            second: 0,
-            third: 0,
-            position: 0,
+            stop: passed(0),
             covenants: count,
         },
-        RunEnd::Refused { stop, count } => {
-            let refusal = stop.refusal;
-            let carried = carried_by(refusal);
-            RunAnswer {
-                number: number(refusal),
-                first: carried.first,
-                second: carried.second,
-                third: carried.third,
-                position: stop.position,
-                covenants: count,
-            }
-        }
+        RunEnd::Refused { stop, count } => RunAnswer {
+            stop: stopped(stop),
+            covenants: count,
+        },
     }
 }
 
@@ -170,7 +136,7 @@ fn place_answer(spot: Spot) -> ViewAnswer
 }
 
 fn an_item(value: u64) -> ItemAnswer
-    ensures { λ r. ⌜ r ≡ itemFlat (there value) ⌝ }
+    ensures { λ r. ⌜ r ≡ itemFlat (some value) ⌝ }
 {
     ItemAnswer {
         exists: true,
@@ -179,7 +145,7 @@ fn an_item(value: u64) -> ItemAnswer
 }
 
 fn no_item() -> ItemAnswer
-    ensures { λ r. ⌜ r ≡ itemFlat absent ⌝ }
+    ensures { λ r. ⌜ r ≡ itemFlat none ⌝ }
 {
     ItemAnswer {
         exists: false,
@@ -324,8 +290,8 @@ pub extern "C" fn turgamysk_covenant_item_name_hash<'a>(
     index: usize,
     hash: &mut [u8; 32],
 ) -> bool
-    ensures { λ r. ⌜ r ≡ shownHash (wide 32 (now (source .entry)) (directoryItem (now (source .entry)) (now (starts .entry)) (now (lens .entry)) count index)) .0 ⌝ }
-    ensures { λ _. ⌜ now (hash .exit) ≡ shownHash (wide 32 (now (source .entry)) (directoryItem (now (source .entry)) (now (starts .entry)) (now (lens .entry)) count index)) .1 ⌝ }
+    ensures { λ r. ⌜ r ≡ shownItemHash (ofWidth 32 (now (source .entry)) (directoryItem (now (source .entry)) (now (starts .entry)) (now (lens .entry)) count index)) .0 ⌝ }
+    ensures { λ _. ⌜ now (hash .exit) ≡ shownItemHash (ofWidth 32 (now (source .entry)) (directoryItem (now (source .entry)) (now (starts .entry)) (now (lens .entry)) count index)) .1 ⌝ }
 {
     let answer = item_name_hash(source, starts, lens, count, index);
     let name_hash = answer.hash;

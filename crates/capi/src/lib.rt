@@ -1,4 +1,5 @@
-// The C boundary: each entry of the libraries under a C name, with its whole contract. include/turgamysk.h declares them.
+// The C boundary: each entry of the libraries under a C name, with its whole contract. bindings/c/turgamysk.h declares
+// them.
 pub mod amounts;
 pub mod items;
 pub mod lines;
@@ -8,22 +9,36 @@ pub mod states;
 pub mod wire;
 
 ghost use mathlib.Core.Path.{_≡_};
-ghost use mathlib.Core.List.{_++_};
+ghost use mathlib.Core.List.{[], _++_};
 ghost use Rattle.words.specs.Words.{bytes};
 ghost use Rattle.sha3.specs.Sha3.{sha3};
 ghost use Rattle.blake2b.specs.Blake2b.{blake2b};
-ghost use Rattle.encoding.specs.Paper.{putPaper};
+ghost use Rattle.refusal.specs.Paper.{numberOf, carried};
+ghost use Rattle.encoding.specs.Paper.{putPaper, movedPaper};
 ghost use Rattle.covenants.specs.Covenant.{skimmed, covenantAt, wholeCovenant};
 ghost use Rattle.covenants.specs.Written.{encodeAnswer, encodeContent};
 ghost use Rattle.covenants.specs.Paper.{covenantPaper, directoryOf};
-ghost use Rattle.capi.specs.Flat.{covenantFlat, writeFlat};
+ghost use Rattle.capi.specs.Flat.{stopFlat, movedFlat, covenantFlat, writeFlat};
+ghost use Rattle.capi.specs.Version.{version};
 use covenants::Covenant;
 use covenants::ReadCovenant;
 use covenants::write::encode;
 use encoding::put::Put;
 use encoding::read::Cursor;
+use encoding::read::Moved;
+use refusal::Stop;
 use refusal::carried_by;
 use refusal::number;
+
+// The number of the interface that bindings/c/turgamysk.h declares.
+pub const VERSION: u32 = 1;
+
+#[no_mangle]
+pub extern "C" fn turgamysk_version() -> u32
+    ensures { λ r. ⌜ r ≡ version ⌝ }
+{
+    VERSION
+}
 
 #[no_mangle]
 pub extern "C" fn turgamysk_sha3_256(message: &[u8], digest: &mut [u8; 32])
@@ -53,14 +68,21 @@ pub extern "C" fn turgamysk_blake2b_256_value_nonce(
     *digest = d;
 }
 
-// A covenant that was read, or the refusal.
+// What a call that reads says beside what it read: 0, or the refusal's number and up to three of what it carries; and
+// where the reader then stands.
 #[repr(C)]
-pub struct CovenantAnswer {
+pub struct FlatStop {
     pub number: u8,
     pub first: usize,
     pub second: usize,
     pub third: usize,
     pub position: usize,
+}
+
+// A covenant that was read, or the refusal.
+#[repr(C)]
+pub struct CovenantAnswer {
+    pub stop: FlatStop,
     pub kind: u8,
     pub count: usize,
     pub used: usize,
@@ -76,6 +98,41 @@ pub struct WriteAnswer {
     pub written: usize,
 }
 
+pub(crate) fn passed(position: usize) -> FlatStop
+    ensures { λ r. ⌜ r ≡ stopFlat 0 [] position ⌝ }
+{
+    FlatStop {
+        number: 0,
+        first: 0,
+        second: 0,
+        third: 0,
+        position,
+    }
+}
+
+pub(crate) fn stopped(stop: Stop) -> FlatStop
+    ensures { λ r. ⌜ r ≡ stopFlat (numberOf (stop .refusal)) (carried (stop .refusal)) (stop .position) ⌝ }
+{
+    let refusal = stop.refusal;
+    let carried = carried_by(refusal);
+    FlatStop {
+        number: number(refusal),
+        first: carried.first,
+        second: carried.second,
+        third: carried.third,
+        position: stop.position,
+    }
+}
+
+pub(crate) fn moved_answer(moved: Moved) -> FlatStop
+    ensures { λ r. ⌜ r ≡ movedFlat (movedPaper moved) ⌝ }
+{
+    match moved {
+        Moved::To(next) => passed(next.position),
+        Moved::Refused(stop) => stopped(stop),
+    }
+}
+
 fn covenant_answer(read: ReadCovenant) -> CovenantAnswer
     ensures { λ r. ⌜ r ≡ covenantFlat (covenantPaper read) ⌝ }
 {
@@ -86,29 +143,17 @@ fn covenant_answer(read: ReadCovenant) -> CovenantAnswer
             used,
             next,
         } => CovenantAnswer {
-            number: 0,
-            first: 0,
-            second: 0,
-            third: 0,
-            position: next.position,
+            stop: passed(next.position),
             kind,
             count,
             used,
         },
-        ReadCovenant::Refused(stop) => {
-            let refusal = stop.refusal;
-            let carried = carried_by(refusal);
-            CovenantAnswer {
-                number: number(refusal),
-                first: carried.first,
-                second: carried.second,
-                third: carried.third,
-                position: stop.position,
-                kind: 0,
-                count: 0,
-                used: 0,
-            }
-        }
+        ReadCovenant::Refused(stop) => CovenantAnswer {
+            stop: stopped(stop),
+            kind: 0,
+            count: 0,
+            used: 0,
+        },
     }
 }
 

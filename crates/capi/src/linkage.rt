@@ -1,10 +1,12 @@
 // The link verifier over two sheets.
+use crate::FlatStop;
+use crate::passed;
+use crate::stopped;
 use links::Links;
 use links::Verified;
 use links::verify_covenant_links;
 use primitives::Outpoint;
-use refusal::carried_by;
-use refusal::number;
+use refusal::Stop;
 ghost use mathlib.Core.Path.{_≡_};
 ghost use Rattle.links.specs.Verify.{verifyOf};
 ghost use Rattle.links.specs.Paper.{verifiedPaper};
@@ -13,10 +15,7 @@ ghost use Rattle.capi.specs.Linkage.{linksFlat};
 // The summary, or the refusal, with the side where it is a sheet's, and with both outpoints of 12.
 #[repr(C)]
 pub struct LinksAnswer {
-    pub number: u8,
-    pub first: usize,
-    pub second: usize,
-    pub third: usize,
+    pub stop: FlatStop,
     pub side: u8,
     pub inputs_checked: usize,
     pub linked_outputs: usize,
@@ -33,10 +32,7 @@ fn links_answer(verified: Verified) -> LinksAnswer
     let links = verified.links;
     match links {
         Links::Linked(summary) => LinksAnswer {
-            number: 0,
-            first: 0,
-            second: 0,
-            third: 0,
+            stop: passed(0),
             side: 0,
             inputs_checked: summary.inputs_checked,
             linked_outputs: summary.linked_outputs,
@@ -44,21 +40,18 @@ fn links_answer(verified: Verified) -> LinksAnswer
             expected,
             actual,
         },
-        Links::Refused { refusal, side } => {
-            let carried = carried_by(refusal);
-            LinksAnswer {
-                number: number(refusal),
-                first: carried.first,
-                second: carried.second,
-                third: carried.third,
-                side,
-                inputs_checked: 0,
-                linked_outputs: 0,
-                name_inputs: 0,
-                expected,
-                actual,
-            }
-        }
+        Links::Refused { refusal, side } => LinksAnswer {
+            stop: stopped(Stop {
+                refusal,
+                position: 0,
+            }),
+            side,
+            inputs_checked: 0,
+            linked_outputs: 0,
+            name_inputs: 0,
+            expected,
+            actual,
+        },
     }
 }
 

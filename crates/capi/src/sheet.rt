@@ -1,9 +1,11 @@
 // Sheets judged whole, their inputs and outputs read one by one, and the item viewer.
+use crate::FlatStop;
+use crate::passed;
+use crate::stopped;
 use crate::wire::OutpointAnswer;
 use crate::wire::outpoint_answer;
 use encoding::read::Cursor;
-use refusal::carried_by;
-use refusal::number;
+use refusal::Stop;
 use sheets::ReadPlace;
 use sheets::SheetRead;
 use sheets::input_at;
@@ -23,23 +25,17 @@ ghost use Rattle.capi.specs.Sheet.{sheetFlat, outputFlat, viewFlat};
 // How many inputs (or coins) and outputs a sheet has, or the refusal and which sheet that is.
 #[repr(C)]
 pub struct SheetAnswer {
-    pub number: u8,
-    pub first: usize,
-    pub second: usize,
-    pub third: usize,
+    pub stop: FlatStop,
     pub side: u8,
     pub inputs: usize,
     pub outputs: usize,
 }
 
-// An output that was read: its value, its address's version and where the address's bytes stand, where its covenant begins, and its kind. Or the refusal.
+// An output that was read: its value, its address's version and where the address's bytes stand, where its covenant
+// begins, and its kind. Or the refusal.
 #[repr(C)]
 pub struct PlaceAnswer {
-    pub number: u8,
-    pub first: usize,
-    pub second: usize,
-    pub third: usize,
-    pub position: usize,
+    pub stop: FlatStop,
     pub value: u64,
     pub version: u8,
     pub start: usize,
@@ -61,26 +57,20 @@ fn sheet_answer(read: SheetRead) -> SheetAnswer
 {
     match read {
         SheetRead::Counts(inputs, outputs) => SheetAnswer {
-            number: 0,
-            first: 0,
-            second: 0,
-            third: 0,
+            stop: passed(0),
             side: 0,
             inputs,
             outputs,
         },
-        SheetRead::Refused { refusal, side } => {
-            let carried = carried_by(refusal);
-            SheetAnswer {
-                number: number(refusal),
-                first: carried.first,
-                second: carried.second,
-                third: carried.third,
-                side,
-                inputs: 0,
-                outputs: 0,
-            }
-        }
+        SheetRead::Refused { refusal, side } => SheetAnswer {
+            stop: stopped(Stop {
+                refusal,
+                position: 0,
+            }),
+            side,
+            inputs: 0,
+            outputs: 0,
+        },
     }
 }
 
@@ -89,11 +79,7 @@ fn output_answer(read: ReadPlace) -> PlaceAnswer
 {
     match read {
         ReadPlace::Output(place, next) => PlaceAnswer {
-            number: 0,
-            first: 0,
-            second: 0,
-            third: 0,
-            position: next.position,
+            stop: passed(next.position),
             value: place.value.0,
             version: place.address.version,
             start: place.address.start,
@@ -101,23 +87,15 @@ fn output_answer(read: ReadPlace) -> PlaceAnswer
             covenant: place.covenant,
             kind: place.kind,
         },
-        ReadPlace::Refused(stop) => {
-            let refusal = stop.refusal;
-            let carried = carried_by(refusal);
-            PlaceAnswer {
-                number: number(refusal),
-                first: carried.first,
-                second: carried.second,
-                third: carried.third,
-                position: stop.position,
-                value: 0,
-                version: 0,
-                start: 0,
-                size: 0,
-                covenant: 0,
-                kind: 0,
-            }
-        }
+        ReadPlace::Refused(stop) => PlaceAnswer {
+            stop: stopped(stop),
+            value: 0,
+            version: 0,
+            start: 0,
+            size: 0,
+            covenant: 0,
+            kind: 0,
+        },
     }
 }
 

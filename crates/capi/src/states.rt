@@ -1,7 +1,8 @@
 // Names and name states.
+use crate::FlatStop;
 use crate::WriteAnswer;
+use crate::moved_answer;
 use crate::write_answer;
-use encoding::read::Moved;
 use name_state::Class;
 use name_state::NameState;
 use name_state_codec::decode::Decoded;
@@ -14,9 +15,7 @@ use names::validate_name;
 use primitives::Dollarydoos;
 use primitives::NameHash;
 use primitives::Outpoint;
-use refusal::carried_by;
 use refusal::judgement_number;
-use refusal::number;
 ghost use mathlib.Core.Path.{_≡_};
 ghost use mathlib.Core.List.{[]};
 ghost use Rattle.words.specs.Buffers.{pick};
@@ -70,11 +69,7 @@ pub extern "C" fn turgamysk_blind_bid(value: u64, nonce: &[u8; 32], digest: &mut
 // A state that was read, or the refusal, and then zeros for a state.
 #[repr(C)]
 pub struct StateAnswer {
-    pub number: u8,
-    pub first: usize,
-    pub second: usize,
-    pub third: usize,
-    pub position: usize,
+    pub stop: FlatStop,
     pub state: NameState,
 }
 
@@ -90,27 +85,9 @@ fn state_answer(decoded: Decoded) -> StateAnswer
 {
     let state = decoded.state;
     let read = decoded.read;
-    match read {
-        Moved::To(next) => StateAnswer {
-            number: 0,
-            first: 0,
-            second: 0,
-            third: 0,
-            position: next.position,
-            state,
-        },
-        Moved::Refused(stop) => {
-            let refusal = stop.refusal;
-            let carried = carried_by(refusal);
-            StateAnswer {
-                number: number(refusal),
-                first: carried.first,
-                second: carried.second,
-                third: carried.third,
-                position: stop.position,
-                state,
-            }
-        }
+    StateAnswer {
+        stop: moved_answer(read),
+        state,
     }
 }
 

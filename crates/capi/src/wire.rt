@@ -1,5 +1,9 @@
 // The wire encoding: reads from a position of lent bytes, writes into lent bytes from an offset on, and outpoints.
+use crate::FlatStop;
 use crate::WriteAnswer;
+use crate::moved_answer;
+use crate::passed;
+use crate::stopped;
 use crate::write_answer;
 use encoding::put::compact_size_len;
 use encoding::put::put_bytes;
@@ -10,7 +14,6 @@ use encoding::put::put_u32_le;
 use encoding::put::put_u64_le;
 use encoding::put::put_varbytes;
 use encoding::read::Cursor;
-use encoding::read::Moved;
 use encoding::read::ReadSize;
 use encoding::read::ReadSpan;
 use encoding::read::ReadU8;
@@ -20,61 +23,37 @@ use encoding::read::ReadU64;
 use primitives::Outpoint;
 use primitives::ReadOutpoint;
 use refusal::Stop;
-use refusal::carried_by;
-use refusal::number;
 ghost use mathlib.Core.Path.{_≡_};
 ghost use Prim.Native.Nat.{ℕ};
 ghost use Rattle.words.specs.Words.{bytes};
 ghost use Rattle.words.specs.Buffers.{laid};
 ghost use Rattle.refusal.specs.Outcome.{ok};
-ghost use Rattle.refusal.specs.Paper.{stopped};
+ghost use Rattle.refusal.specs.Paper.{stopPaper};
 ghost use Rattle.encoding.specs.Wire.{remainingAt, sliceAt, bytesAt, fixedAt, compactAt, compactMost, boundedAt, varbytesAt, finishAt, compact, compactSize, varbytes, putAnswer};
-ghost use Rattle.encoding.specs.Paper.{spanPaper, movedPaper, shown};
+ghost use Rattle.encoding.specs.Paper.{spanPaper, shownBytes};
 ghost use Rattle.primitives.specs.Outpoints.{sameOutpoint, isNull, outpointBytes, outpointAt, outpointPaper, shownOutpoint};
-ghost use Rattle.capi.specs.Flat.{writeFlat};
-ghost use Rattle.capi.specs.Reading.{numberFlat, spanFlat, movedFlat, outpointFlat};
+ghost use Rattle.capi.specs.Flat.{movedFlat, writeFlat};
+ghost use Rattle.capi.specs.Reading.{numberFlat, spanFlat, outpointFlat};
 
 // A number that was read, or the refusal.
 #[repr(C)]
 pub struct NumberAnswer {
-    pub number: u8,
-    pub first: usize,
-    pub second: usize,
-    pub third: usize,
-    pub position: usize,
+    pub stop: FlatStop,
     pub value: u64,
 }
 
 // Where the bytes that were read stand, or the refusal.
 #[repr(C)]
 pub struct SpanAnswer {
-    pub number: u8,
-    pub first: usize,
-    pub second: usize,
-    pub third: usize,
-    pub position: usize,
+    pub stop: FlatStop,
     pub start: usize,
     pub length: usize,
-}
-
-// Where the reader stands after what it passed, or the refusal.
-#[repr(C)]
-pub struct MovedAnswer {
-    pub number: u8,
-    pub first: usize,
-    pub second: usize,
-    pub third: usize,
-    pub position: usize,
 }
 
 // An outpoint that was read, or the refusal.
 #[repr(C)]
 pub struct OutpointAnswer {
-    pub number: u8,
-    pub first: usize,
-    pub second: usize,
-    pub third: usize,
-    pub position: usize,
+    pub stop: FlatStop,
     pub outpoint: Outpoint,
 }
 
@@ -82,26 +61,16 @@ fn a_number(value: u64, next: Cursor) -> NumberAnswer
     ensures { λ r. ⌜ r ≡ numberFlat (ok value (next .position)) ⌝ }
 {
     NumberAnswer {
-        number: 0,
-        first: 0,
-        second: 0,
-        third: 0,
-        position: next.position,
+        stop: passed(next.position),
         value,
     }
 }
 
 fn no_number(stop: Stop) -> NumberAnswer
-    ensures { λ r. ⌜ r ≡ numberFlat (stopped stop) ⌝ }
+    ensures { λ r. ⌜ r ≡ numberFlat (stopPaper stop) ⌝ }
 {
-    let refusal = stop.refusal;
-    let carried = carried_by(refusal);
     NumberAnswer {
-        number: number(refusal),
-        first: carried.first,
-        second: carried.second,
-        third: carried.third,
-        position: stop.position,
+        stop: stopped(stop),
         value: 0,
     }
 }
@@ -111,52 +80,15 @@ fn span_answer(read: ReadSpan) -> SpanAnswer
 {
     match read {
         ReadSpan::Span { start, len, next } => SpanAnswer {
-            number: 0,
-            first: 0,
-            second: 0,
-            third: 0,
-            position: next.position,
+            stop: passed(next.position),
             start,
             length: len,
         },
-        ReadSpan::Refused(stop) => {
-            let refusal = stop.refusal;
-            let carried = carried_by(refusal);
-            SpanAnswer {
-                number: number(refusal),
-                first: carried.first,
-                second: carried.second,
-                third: carried.third,
-                position: stop.position,
-                start: 0,
-                length: 0,
-            }
-        }
-    }
-}
-
-fn moved_answer(moved: Moved) -> MovedAnswer
-    ensures { λ r. ⌜ r ≡ movedFlat (movedPaper moved) ⌝ }
-{
-    match moved {
-        Moved::To(next) => MovedAnswer {
-            number: 0,
-            first: 0,
-            second: 0,
-            third: 0,
-            position: next.position,
+        ReadSpan::Refused(stop) => SpanAnswer {
+            stop: stopped(stop),
+            start: 0,
+            length: 0,
         },
-        Moved::Refused(stop) => {
-            let refusal = stop.refusal;
-            let carried = carried_by(refusal);
-            MovedAnswer {
-                number: number(refusal),
-                first: carried.first,
-                second: carried.second,
-                third: carried.third,
-                position: stop.position,
-            }
-        }
     }
 }
 
@@ -165,27 +97,9 @@ pub(crate) fn outpoint_answer(read: ReadOutpoint) -> OutpointAnswer
 {
     let outpoint = read.outpoint;
     let moved = read.moved;
-    match moved {
-        Moved::To(next) => OutpointAnswer {
-            number: 0,
-            first: 0,
-            second: 0,
-            third: 0,
-            position: next.position,
-            outpoint,
-        },
-        Moved::Refused(stop) => {
-            let refusal = stop.refusal;
-            let carried = carried_by(refusal);
-            OutpointAnswer {
-                number: number(refusal),
-                first: carried.first,
-                second: carried.second,
-                third: carried.third,
-                position: stop.position,
-                outpoint,
-            }
-        }
+    OutpointAnswer {
+        stop: moved_answer(moved),
+        outpoint,
     }
 }
 
@@ -307,9 +221,9 @@ pub extern "C" fn turgamysk_read_array(
     source: &[u8],
     position: usize,
     array: &mut [u8; 32],
-) -> MovedAnswer
-    ensures { λ r. ⌜ r ≡ movedFlat (shown 32 (bytesAt 32 (now (source .entry)) position) .0) ⌝ }
-    ensures { λ _. ⌜ now (array .exit) ≡ shown 32 (bytesAt 32 (now (source .entry)) position) .1 ⌝ }
+) -> FlatStop
+    ensures { λ r. ⌜ r ≡ movedFlat (shownBytes 32 (bytesAt 32 (now (source .entry)) position) .0) ⌝ }
+    ensures { λ _. ⌜ now (array .exit) ≡ shownBytes 32 (bytesAt 32 (now (source .entry)) position) .1 ⌝ }
 {
     let c = Cursor { position };
     let read = c.read_array(source);
@@ -320,7 +234,7 @@ pub extern "C" fn turgamysk_read_array(
 }
 
 #[no_mangle]
-pub extern "C" fn turgamysk_finish(source: &[u8], position: usize) -> MovedAnswer
+pub extern "C" fn turgamysk_finish(source: &[u8], position: usize) -> FlatStop
     ensures { λ r. ⌜ r ≡ movedFlat (finishAt (now (source .entry)) position) ⌝ }
 {
     let c = Cursor { position };

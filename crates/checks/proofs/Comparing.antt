@@ -4,6 +4,7 @@ use Prim.Native.Nat.{ℕ, zero, suc, _+_, _-_, _*_, _^_, _≤_, _<_}
 use native.Mathlib.Omega.{arith}
 use mathlib.Core.List.{List, [], _∷_}
 use mathlib.Core.Bool.{Bool, true, false}
+use mathlib.Core.Option.{Option, some, none}
 use lib.ListN.{length, getD, List·getD-eq-default}
 use lib.Dec.{eqb}
 use borrow.Author.Tests.{eq-eqb, ne-eqb, eqb-true, eqb-false}
@@ -13,11 +14,11 @@ use Rattle.words.proofs.Le.{part-long}
 use Rattle.refusal.specs.declared.Refusal.{Refusal}
 use Rattle.refusal.specs.Paper.{numberOf, carried}
 use Rattle.covenants.specs.Covenant.{bytesIn}
-use Rattle.covenants.specs.Items.{Maybe, there, absent, seekAt}
+use Rattle.covenants.specs.Items.{seekAt}
 use Rattle.covenants.proofs.Parts.{same-more, same-not, same-none}
 use Rattle.sheets.specs.Sheet.{itemsFrom}
 use Rattle.sheets.proofs.Items.{item-inside, item-there, item-few}
-use Rattle.checks.specs.Checks.{Step, passes, breaks, after, check, agree, nameAndStart}
+use Rattle.checks.specs.Checks.{Step, passes, breaks, andThen, check, agree, nameAndStart}
 use Rattle.checks.specs.Items.{placed, itemsAt, sizedPair, itemsPair}
 use Rattle.checks.specs.Workers.{Left}
 use Rattle.checks.specs.declared.Items.{Items}
@@ -47,9 +48,9 @@ Item s at k part = (part .0 + part .1 ≤ length s) × (getD (itemsFrom s at) k 
 item-placed : (s : List ℕ) (at k : ℕ) → length s < 2 ^ 64 → Item s at k (placed (seekAt s at k))
 item-placed s at k big = go (seekAt s at k) refl
   where
-    go : (m : Maybe (ℕ × ℕ)) → seekAt s at k ≡ m → Item s at k (placed m)
-    go (there part) e = (item-inside s at k big e, item-there s at k e)
-    go absent e = (omega arith, List·getD-eq-default (itemsFrom s at) [] (item-few s at k e))
+    go : (m : Option (ℕ × ℕ)) → seekAt s at k ≡ m → Item s at k (placed m)
+    go (some part) e = (item-inside s at k big e, item-there s at k e)
+    go none e = (omega arith, List·getD-eq-default (itemsFrom s at) [] (item-few s at k e))
 
 pub items-are : (s : List ℕ) (at : ℕ) {a n b m : ℕ} → (a, n) ≡ placed (seekAt s at 0) → (b, m) ≡ placed (seekAt s at 1) → record { name = a; «name_size» = n; height = b; «height_size» = m } ≡ itemsAt s at
 items-are s at e f = ap₂ (λ (x y : ℕ × ℕ). record { name = x .0; «name_size» = x .1; height = y .0; «height_size» = y .1 }) e f
@@ -163,23 +164,23 @@ module _ (coins tx : List ℕ) (big : (length coins < 2 ^ 64) × (length tx < 2 
     items-equal f = let q = said e in left-equal i (itemsFrom coins spent) (itemsFrom tx made) k refl few (q .3) (rw (q .0) at f)
 
 -- where they agree, nothing is left to say but that the input passes
-agree-passes : (i k width field number : ℕ) (xs ys : List (List ℕ)) → after (agree i k width field number xs ys) (passes true) ≡ agree i k width field number xs ys
+agree-passes : (i k width field number : ℕ) (xs ys : List (List ℕ)) → andThen (agree i k width field number xs ys) (passes true) ≡ agree i k width field number xs ys
 unfolding agree
 agree-passes i k width field number xs ys = go (eqb (length (getD xs k [])) width) (eqb (length (getD ys k [])) width) (same (getD xs k []) (getD ys k []))
   where
     go : (a b c : Bool)
-        → after (pick a (pick b (check c number (i ∷ [])) (breaks 15 (i ∷ (field + 1) ∷ []))) (breaks 15 (i ∷ field ∷ []))) (passes true)
+        → andThen (pick a (pick b (check c number (i ∷ [])) (breaks 15 (i ∷ (field + 1) ∷ []))) (breaks 15 (i ∷ field ∷ []))) (passes true)
         ≡ pick a (pick b (check c number (i ∷ [])) (breaks 15 (i ∷ (field + 1) ∷ []))) (breaks 15 (i ∷ field ∷ []))
     go false b c = refl
     go true false c = refl
     go true true false = refl
     go true true true = refl
 
-pub names-pass : (i : ℕ) (xs ys : List (List ℕ)) → after (nameAndStart i xs ys) (passes true) ≡ nameAndStart i xs ys
+pub names-pass : (i : ℕ) (xs ys : List (List ℕ)) → andThen (nameAndStart i xs ys) (passes true) ≡ nameAndStart i xs ys
 unfolding nameAndStart
 names-pass i xs ys = go (agree i 0 32 1 16 xs ys)
   where
-    go : (s : Step) → after (after s (agree i 1 4 3 17 xs ys)) (passes true) ≡ after s (agree i 1 4 3 17 xs ys)
+    go : (s : Step) → andThen (andThen s (agree i 1 4 3 17 xs ys)) (passes true) ≡ andThen s (agree i 1 4 3 17 xs ys)
     go (passes n) = agree-passes i 1 4 3 17 xs ys
     go (breaks k vs) = refl
 

@@ -1,5 +1,5 @@
--- The checks that the rows of the link rules are made of: document 01, "Link rules", on what is spent and what its partner creates. Nothing here knows
--- of sheets.
+-- The checks that the rows of the link rules are made of: document 01, "Link rules", on what is spent and what its
+-- partner creates. Nothing here knows of sheets.
 use Prim.Native.Nat.{ℕ, _+_}
 use mathlib.Core.Bool.{Bool, true, _&&_}
 use mathlib.Core.List.{List, [], _∷_}
@@ -10,16 +10,17 @@ use Rattle.words.specs.Sameness.{same}
 use Rattle.names.specs.Blind.{blindOf}
 use Rattle.sheets.specs.Sheet.{Output}
 
--- ---- a step: it passes, and whether that links an output; or it breaks a rule, by the rule's number and what that carries
+-- ---- a step: it passes, and whether that links an output; or it breaks a rule, by the rule's number and what that
+-- carries
 
 pub data Step : Type 0 where
   passes : Bool → Step
   breaks : ℕ → List ℕ → Step
 
 -- one check and then another: "each fully before the next; the check stops at the first rule broken anywhere"
-abbrev pub after : Step → Step → Step
-after (passes n) next = next
-after (breaks k vs) next = breaks k vs
+abbrev pub andThen : Step → Step → Step
+andThen (passes n) next = next
+andThen (breaks k vs) next = breaks k vs
 
 abbrev pub check : Bool → ℕ → List ℕ → Step
 check right k vs = pick right (passes true) (breaks k vs)
@@ -39,10 +40,11 @@ unfoldable pub agree : ℕ → ℕ → ℕ → ℕ → ℕ → List (List ℕ) �
 agree input k width field number spent created =
     sized input field width k spent (λ a. sized input (field + 1) width k created (λ b. check (same a b) number (input ∷ [])))
 
--- "Name and start": "item 0 spent, item 0 created (32 bytes each, 15), equal (16), item 1 spent, item 1 created (4 bytes, 15), equal (17)".
+-- "Name and start": "item 0 spent, item 0 created (32 bytes each, 15), equal (16), item 1 spent, item 1 created
+-- (4 bytes, 15), equal (17)".
 -- The fields of 15: 1 spent name, 2 created name, 3 spent start, 4 created start
 unfoldable pub nameAndStart : ℕ → List (List ℕ) → List (List ℕ) → Step
-nameAndStart i spent created = after (agree i 0 32 1 16 spent created) (agree i 1 4 3 17 spent created)
+nameAndStart i spent created = andThen (agree i 0 32 1 16 spent created) (agree i 1 4 3 17 spent created)
 
 -- ---- the ends of two rows: the input's number, what is spent, what its partner creates
 
@@ -52,11 +54,11 @@ opened i spent made =
     sized i 5 32 2 (made .items)
     (λ nonce. sized i 6 32 3 (spent .items) (λ commitment. check (same (blindOf (made .value) nonce) commitment) 18 (i ∷ [])))
 
--- Transfer to Finalize: "spent item 2 one byte, item 3 present (15), output address equal to them (23)". Fields: 7 transfer version,
--- 8 transfer hash
+-- Transfer to Finalize: "spent item 2 one byte, item 3 present (15), output address equal to them (23)". Fields:
+-- 7 transfer version, 8 transfer hash
 unfoldable pub destined : ℕ → Output → Output → Step
 destined i spent made =
     sized i 7 1 2 (spent .items)
     (λ version.
-    after (check (ltb 3 (length (spent .items))) 15 (i ∷ 8 ∷ []))
+    andThen (check (ltb 3 (length (spent .items))) 15 (i ∷ 8 ∷ []))
     (check (sameAddress (made .address) (getD version 0 0, getD (spent .items) 3 [])) 23 (i ∷ [])))

@@ -2,16 +2,17 @@
 -- them is malformed.
 use Prim.Native.Nat.{ℕ, _+_}
 use mathlib.Core.List.{List}
+use mathlib.Core.Option.{Option, some, none}
 use lib.Dec.{eqb}
 use Rattle.words.specs.Buffers.{pick}
-use Rattle.covenants.specs.Items.{Maybe, there, absent, seekAt}
+use Rattle.covenants.specs.Items.{seekAt}
 use Rattle.checks.specs.declared.Items.{Items}
 use Rattle.checks.specs.declared.Pair.{Pair}
 
 -- where an item stands and how long it is: zeros where there is none
-abbrev pub placed : Maybe (ℕ × ℕ) → ℕ × ℕ
-placed (there part) = part
-placed absent = (0, 0)
+abbrev pub placed : Option (ℕ × ℕ) → ℕ × ℕ
+placed (some part) = part
+placed none = (0, 0)
 
 -- items 0 and 1 of the covenant that stands at a place
 abbrev pub itemsAt : List ℕ → ℕ → Items

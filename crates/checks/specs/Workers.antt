@@ -1,4 +1,5 @@
--- Words of the private functions and of their proofs, and of those of links, which compares items 0 and 1 in its own walk; no outsider reads them.
+-- Words of the private functions and of their proofs, and of those of links, which compares items 0 and 1 in its own
+-- walk; no outsider reads them.
 use mathlib.Core.Path.{_≡_}
 use Prim.Native.Nat.{ℕ, zero, suc, _+_, _≤_}
 use mathlib.Core.List.{List, [], _∷_}
@@ -7,7 +8,7 @@ use lib.ListN.{length, getD}
 use lib.Dec.{ltb}
 use Rattle.covenants.specs.Covenant.{bytesIn}
 use Rattle.sheets.specs.Sheet.{Output, itemsFrom}
-use Rattle.checks.specs.Checks.{Step, passes, after, check, sameAddress, agree, nameAndStart}
+use Rattle.checks.specs.Checks.{Step, passes, andThen, check, sameAddress, agree, nameAndStart}
 use Rattle.checks.specs.declared.Sized.{Sized}
 
 -- what the place of an item of a width says of that item
@@ -24,5 +25,5 @@ Left i xs ys (suc (suc k)) = passes true
 -- the end of `destined`, from the transfer's version on
 abbrev pub namedAddress : ℕ → Output → Output → ℕ → Step
 namedAddress i spent made version =
-    after (check (ltb 3 (length (spent .items))) 15 (i ∷ 8 ∷ []))
+    andThen (check (ltb 3 (length (spent .items))) 15 (i ∷ 8 ∷ []))
     (check (sameAddress (made .address) (version, getD (spent .items) 3 [])) 23 (i ∷ []))

@@ -1,4 +1,5 @@
-// The checks of one input against its partner: what the rows of the link rules' table are made of. Each answers for any two places.
+// The checks of one input against its partner: what the rows of the link rules' table are made of. Each answers for any
+// two places.
 use covenants::items::Spot;
 use covenants::items::find;
 use covenants::items::find_two;
@@ -53,8 +54,8 @@ pub struct Items {
     pub height_size: usize,
 }
 
-// Where an item of the spent and of the created covenant stand, and their width; or the field of 15, for the one that is
-// malformed.
+// Where an item of the spent and of the created covenant stand, and their width; or the field of 15, for the one that
+// is malformed.
 pub enum Pair {
     At {
         spent: usize,
@@ -136,7 +137,7 @@ pub fn items_at(s: &[u8], covenant: usize) -> Items
     ensures { λ r. ⌜ r ≡ itemsAt (now (s .entry)) covenant ⌝ }
 {
     let c = Cursor { position: covenant };
-    let two = find_two(c, &s[..]);
+    let two = find_two(c, s);
     let first = two.first;
     let second = two.second;
     let name = found(first);
@@ -201,8 +202,8 @@ pub fn unequal(input: usize, k: usize) -> Refusal
     Refusal::StartHeightMismatch { input }
 }
 
-// Item 0, the name hash, and item 1, the start height: the Rust's `require_name_and_start_match`, for whoever judges one
-// input by itself. The walk of links has these loops in its own, which leaves all of them at once.
+// Item 0, the name hash, and item 1, the start height: the Rust's `require_name_and_start_match`, for whoever judges
+// one input by itself. The walk of links has these loops in its own, which leaves all of them at once.
 pub fn name_and_start(tx: &[u8], coins: &[u8], input: usize, spent: Place, made: Place) -> Step
     ensures { λ r. ⌜ stepPaper r ≡ nameAndStart input (outputOf (now (coins .entry)) spent .items) (outputOf (now (tx .entry)) made .items) ⌝ }
 {

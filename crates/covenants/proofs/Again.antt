@@ -1,18 +1,18 @@
 -- What was accepted stands there as it would be written.
-use mathlib.Core.Path.{_≡_, refl, ap}
-use Prim.Native.Nat.{ℕ, zero, suc, _+_, _-_, _^_, _≤_, _<_, min}
+use mathlib.Core.Path.{_≡_, ap}
+use Prim.Native.Nat.{ℕ, _+_, _-_, _^_, _≤_, _<_, min}
 use native.Mathlib.Omega.{arith}
 use native.Mathlib.Nat.{mod-eq-of-lt}
 use mathlib.Core.List.{List, [], _∷_}
 use lib.ListN.{length, drop, length-append, length-drop, length-map}
 use Rattle.words.specs.Words.{bytes, Bytes}
 use Rattle.refusal.specs.Outcome.{ok, manyAt}
-use Rattle.refusal.proofs.Many.{many-next}
 use Rattle.encoding.specs.Wire.{varbytes}
+use Rattle.encoding.specs.Joined.{joined}
 use Rattle.encoding.proofs.Fixed.{fixed-under}
-use Rattle.encoding.proofs.Found.{Found, join, found-fixed, found-most, found-slice}
+use Rattle.encoding.proofs.Found.{Found, join, found-fixed, found-most, found-slice, many-found}
 use Rattle.covenants.specs.Covenant.{itemAt, Reading, covenantAt, bytesIn, contents}
-use Rattle.covenants.specs.Written.{itemsBytes, covenantBytes}
+use Rattle.covenants.specs.Written.{covenantBytes}
 use Rattle.words.proofs.Le.{part-long}
 use Rattle.covenants.proofs.Moves.{item-read, head-read, covenant-accepted}
 
@@ -30,15 +30,8 @@ module _ (s : List ℕ) (small : Bytes s) (big : length s < 2 ^ 64) where
       let long : length (bytesIn s part) ≡ part .1 = part-long s (part .0) (part .1) (omega (arith, i .starts, i .ends, i .fits)) in
       rw long (join first second)
 
-  found-items : (allowance start n at : ℕ) {xs : List (ℕ × ℕ)} {end : ℕ} → manyAt (itemAt allowance start s) n at ≡ ok xs end → Found s at (itemsBytes (contents s xs)) end
-  unfolding itemsBytes manyAt
-  found-items allowance start zero at {xs} {end} e =
-      let none : [] ≡ xs = cc in
-      let here : at ≡ end = cc in
-      rw (← none, ← here) (record { there = refl })
-  found-items allowance start (suc n) at {xs} {end} e =
-      let w = many-next (itemAt allowance start s) {n = n} {n′ = suc n} refl e in
-      rw (w .split) (join (found-item allowance start at (w .here)) (found-items allowance start n (w .next) (w .rest)))
+  found-items : (allowance start n at : ℕ) {xs : List (ℕ × ℕ)} {end : ℕ} → manyAt (itemAt allowance start s) n at ≡ ok xs end → Found s at (joined varbytes (contents s xs)) end
+  found-items allowance start = many-found s (itemAt allowance start s) varbytes (bytesIn s) (λ at part next e. found-item allowance start at e)
 
   pub found-covenant : (limit at : ℕ) {c : Reading} {end : ℕ} → covenantAt limit s at ≡ ok c end → Found s at (covenantBytes (c .kind) (contents s (c .items))) end
   unfolding bytes covenantBytes

@@ -3,6 +3,7 @@ use mathlib.Core.Path.{_≡_, refl, ap, sym, _∙_}
 use Prim.Native.Nat.{ℕ, zero, suc, _+_, _^_, _≤_, _<_, min}
 use native.Mathlib.Omega.{arith}
 use mathlib.Core.List.{List, [], _∷_}
+use mathlib.Core.Option.{some, none}
 use lib.ListN.{length, getD, length-map, List·getD-append}
 use borrow.Author.Tests.{le-ltb, lt-ltb, le-leb}
 use Rattle.words.proofs.Cases.{by-order}
@@ -11,13 +12,13 @@ use Rattle.refusal.proofs.Outcomes.{then-assoc}
 use Rattle.refusal.proofs.Many.{many-next}
 use Rattle.encoding.specs.Theorems.{Lent}
 use Rattle.covenants.specs.Covenant.{itemAt, headAt, Reading, covenantAt}
-use Rattle.covenants.specs.Items.{there, absent, found, nth, seekAt, directoryItem}
-use Rattle.words.specs.Buffers.{padded}
+use Rattle.covenants.specs.Items.{found, nth, seekAt, directoryItem}
+use Rattle.words.specs.Buffers.{zeroPadded}
 use Rattle.covenants.specs.Paper.{listed, directoryOf}
 use Rattle.covenants.specs.Workers.{starts-of, lens-of}
 use Rattle.covenants.proofs.Moves.{item-read, head-read, covenant-accepted}
 
-nth-none : (xs : List (ℕ × ℕ)) (k : ℕ) → length xs ≤ k → nth xs k ≡ absent
+nth-none : (xs : List (ℕ × ℕ)) (k : ℕ) → length xs ≤ k → nth xs k ≡ none
 unfolding nth
 nth-none [] k h = refl
 nth-none (x ∷ xs) zero h = absurd (omega arith)
@@ -52,7 +53,7 @@ seek-finds s at index {r} e =
 -- an item that was read: its entries in the directory, and that it lies within
 record Entry (s : List ℕ) (xs : List (ℕ × ℕ)) (k : ℕ) : Type 0 where
   part : ℕ × ℕ
-  is : nth xs k ≡ there part
+  is : nth xs k ≡ some part
   starts : getD (starts-of xs) k 0 ≡ part .0
   size : getD (lens-of xs) k 0 ≡ part .1
   fits : part .0 + part .1 ≤ length s
@@ -72,7 +73,7 @@ entry allowance start s big (suc k) (suc n) at h e =
 -- the directory of those items
 directory-entry : (s : List ℕ) (xs : List (ℕ × ℕ)) (k : ℕ) → k < length xs → length xs ≤ 1000 → Entry s xs k
     → directoryItem s (listed (starts-of xs)) (listed (lens-of xs)) (length xs) k ≡ nth xs k
-unfolding padded directoryItem
+unfolding zeroPadded directoryItem
 directory-entry s xs k h few i =
     let a : getD (listed (starts-of xs)) k 0 ≡ i .part .0 = List·getD-append (starts-of xs) _ 0 k (rw length-map h) ∙ i .starts in
     let b : getD (listed (lens-of xs)) k 0 ≡ i .part .1 = List·getD-append (lens-of xs) _ 0 k (rw length-map h) ∙ i .size in
@@ -93,13 +94,13 @@ directory-holds limit s at index {r} big e =
     (λ h. directory-none s (r .items) index h)
 
 -- an item of an accepted covenant lies within the bytes
-pub nth-inside : (s : List ℕ) (at k : ℕ) {r : Reading} {end : ℕ} {part : ℕ × ℕ} → length s < 2 ^ 64 → covenantAt 1000009 s at ≡ ok r end → nth (r .items) k ≡ there part → part .0 + part .1 ≤ length s
+pub nth-inside : (s : List ℕ) (at k : ℕ) {r : Reading} {end : ℕ} {part : ℕ × ℕ} → length s < 2 ^ 64 → covenantAt 1000009 s at ≡ ok r end → nth (r .items) k ≡ some part → part .0 + part .1 ≤ length s
 nth-inside s at k {r} {end} {part} big e f =
     let a = covenant-accepted 1000009 s at e in
     by-order k (length (r .items))
     (λ h.
     let x = entry 1000009 at s big k (length (r .items)) (a .first) h (a .items) in
-    let same : there (x .part) ≡ there part = sym (x .is) ∙ f in
+    let same : some (x .part) ≡ some part = sym (x .is) ∙ f in
     let p : x .part ≡ part = cc in
     omega (arith, x .fits, ap (λ (q : ℕ × ℕ). q .0) p, ap (λ (q : ℕ × ℕ). q .1) p))
     (λ h. let g = nth-none (r .items) k h in absurd (let z : _≡_ {A = ℕ} 0 1 = cc in omega arith))

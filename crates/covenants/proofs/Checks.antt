@@ -14,9 +14,10 @@ use Rattle.words.proofs.Le.{part-long}
 use Rattle.refusal.proofs.Outcomes.{never-both, next-ok, checked}
 use Rattle.refusal.specs.Outcome.{Wrote, wrote, refused, filled}
 use Rattle.encoding.specs.Wire.{compact, compactSize, varbytes}
+use Rattle.encoding.specs.Joined.{joined}
 use Rattle.encoding.proofs.Compact.{length-compact, length-varbytes, compact-size-most}
 use Rattle.covenants.specs.Covenant.{bytesIn, contents}
-use Rattle.covenants.specs.Written.{itemsBytes, covenantBytes, itemsSize, covenantSize, parts, Held, heldFrom, sizeFrom, sizeAnswer, directoryBytes, encodeAnswer, encodeContent, entryHeld, tableHeld, tableSize, tableAnswer, filledFrom, tableContent}
+use Rattle.covenants.specs.Written.{covenantBytes, itemsSize, covenantSize, parts, Held, heldFrom, sizeFrom, sizeAnswer, directoryBytes, encodeAnswer, encodeContent, entryHeld, tableHeld, tableSize, tableAnswer, filledFrom, tableContent}
 use Rattle.covenants.specs.Workers.{There}
 use Rattle.covenants.specs.Theorems.{Short}
 
@@ -115,18 +116,18 @@ table-all size starts lens first i (suc n) e =
     (there-first starts (first + i) n (one .0) (rw k at (ih .0)), there-first lens (first + i) n (one .1) (rw k at (ih .1)), (one .2, rw k at (ih .2)))
 
 -- how many bytes are written
-pub items-long : (items : List (List ℕ)) → length (itemsBytes items) ≡ itemsSize items
-unfolding itemsBytes itemsSize
+pub items-long : (items : List (List ℕ)) → length (joined varbytes items) ≡ itemsSize items
+unfolding joined itemsSize
 items-long [] = refl
 items-long (item ∷ items) =
-    length-append (varbytes item) (itemsBytes items)
+    length-append (varbytes item) (joined varbytes items)
     ∙ omega (arith, length-varbytes item {n = compactSize (length item) + length item} refl, items-long items)
 
 pub covenant-long : (kind : ℕ) (items : List (List ℕ)) → length (covenantBytes kind items) ≡ covenantSize items
 unfolding covenantBytes covenantSize
 covenant-long kind items =
     let n = length items in
-    omega (arith, length-append (compact n) (itemsBytes items), length-compact n, items-long items)
+    omega (arith, length-append (compact n) (joined varbytes items), length-compact n, items-long items)
 
 -- the running size ends with theirs
 size-all : (source : List ℕ) (used : ℕ) (ps : List (ℕ × ℕ)) {m : ℕ} → Held (length source) ps → sizeFrom used ps ≡ wrote m → m ≡ used + itemsSize (contents source ps)

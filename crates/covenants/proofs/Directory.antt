@@ -5,18 +5,18 @@ use native.Mathlib.Omega.{arith}
 use mathlib.Core.List.{List, [], _∷_, _++_, map, append-nil}
 use lib.ListN.{length, length-append, length-map, set, replicate}
 use lib.Seq.{set-append-seam, append-snoc}
-use Rattle.words.specs.Buffers.{padded}
+use Rattle.words.specs.Buffers.{zeroPadded}
 use Rattle.refusal.specs.Outcome.{Stand, Outcome, ok, err, then, past, manyAt, listOf}
 use Rattle.refusal.proofs.Outcomes.{never}
-use Rattle.covenants.specs.Covenant.{itemAt, headAt, Reading, Said, finished, opening, covenantAt, skimmed}
-use Rattle.covenants.specs.Paper.{listed, directoryOf, shown}
+use Rattle.covenants.specs.Covenant.{itemAt, headAt, Reading, Skimmed, finished, opening, covenantAt, skimmed}
+use Rattle.covenants.specs.Paper.{listed, directoryOf, shownCovenant}
 use Rattle.covenants.specs.Workers.{starts-of, lens-of, Filling}
 use Rattle.covenants.specs.declared.Covenant.{Covenant}
 use Rattle.covenants.proofs.Moves.{skim-body}
 
 -- a directory of 1,000 with one more number
 listed-more : (xs : List ℕ) (v : ℕ) → length xs < 1000 → set (listed xs) (length xs) v ≡ listed (xs ++ (v ∷ []))
-unfolding padded
+unfolding zeroPadded
 listed-more xs v h =
     let k : 1000 - length xs ≡ suc (999 - length xs) = omega arith in
     let k′ : 1000 - length (xs ++ (v ∷ [])) ≡ 999 - length xs = omega (arith, length-append xs (v ∷ [])) in
@@ -107,10 +107,10 @@ lens-kept (ok items end) kind start = refl
 lens-kept (err k vs p) kind start = refl
 
 -- what a decoder says of an outcome, and both arrays that it leaves
-abbrev pub Tells : Outcome Reading → Outcome Said → List ℕ → List ℕ → Type 0
+abbrev pub Tells : Outcome Reading → Outcome Skimmed → List ℕ → List ℕ → Type 0
 Tells o said starts lens = (said ≡ skimmed o) × ((starts ≡ directoryOf o .starts) × (lens ≡ directoryOf o .lens))
 
-pub tells-same : {o o′ : Outcome Reading} {said : Outcome Said} {starts lens : List ℕ} → o ≡ o′ → Tells o said starts lens → Tells o′ said starts lens
+pub tells-same : {o o′ : Outcome Reading} {said : Outcome Skimmed} {starts lens : List ℕ} → o ≡ o′ → Tells o said starts lens → Tells o′ said starts lens
 tells-same e t = rw (← e) t
 
 -- a refusal, and zeros
@@ -120,7 +120,7 @@ tells-refused e zeros = rw e (refl, zeros)
 
 -- a covenant from its head on
 pub tells-kept : (limit : ℕ) (s : List ℕ) (at : ℕ) {allowance : ℕ} → allowance ≡ min limit 1000009 → {head : ℕ × ℕ} {next : ℕ} → opening allowance s at (headAt allowance s at) ≡ ok head next
-    → {said : Outcome Said} {starts lens : List ℕ} → said ≡ skimmed (covenantAt limit s at)
+    → {said : Outcome Skimmed} {starts lens : List ℕ} → said ≡ skimmed (covenantAt limit s at)
     → (starts ≡ listed (starts-of (listOf (manyAt (itemAt allowance at s) (head .1) next)))) × (lens ≡ listed (lens-of (listOf (manyAt (itemAt allowance at s) (head .1) next))))
     → Tells (covenantAt limit s at) said starts lens
 tells-kept limit s at {allowance} capped {head} {next} e said both =
@@ -131,24 +131,24 @@ tells-kept limit s at {allowance} capped {head} {next} e said both =
 
 module _ {starts lens : List ℕ} where
   pub accepted-shown : (o : Outcome Reading) {kind count used p : ℕ} → ok (kind, count, used) p ≡ skimmed o → starts ≡ directoryOf o .starts → lens ≡ directoryOf o .lens
-      → (ok (kind, count, used) p, record { kind = kind; count = count; starts = starts; lens = lens }) ≡ shown o
+      → (ok (kind, count, used) p, record { kind = kind; count = count; starts = starts; lens = lens }) ≡ shownCovenant o
   unfolding directoryOf
   accepted-shown (ok c q) {kind} {count} {used} {p} e f g =
-      let said : _≡_ {A = Said} (kind, count, used) (c .kind, length (c .items), c .used) = cc in
-      let k : kind ≡ c .kind = ap (λ (x : Said). x .0) said in
-      let n : count ≡ length (c .items) = ap (λ (x : Said). x .1) said in
-      ap₂ (λ (x : Outcome Said) (y : Covenant). (x, y)) e (rw (k, n, f, g))
+      let said : _≡_ {A = Skimmed} (kind, count, used) (c .kind, length (c .items), c .used) = cc in
+      let k : kind ≡ c .kind = ap (λ (x : Skimmed). x .0) said in
+      let n : count ≡ length (c .items) = ap (λ (x : Skimmed). x .1) said in
+      ap₂ (λ (x : Outcome Skimmed) (y : Covenant). (x, y)) e (rw (k, n, f, g))
   accepted-shown (err k vs q) e f g = absurd (never refl e)
 
-  pub refused-shown : (o : Outcome Reading) {said : Outcome Said} {k : ℕ} {vs : List ℕ} {p : Stand} → said ≡ err k vs p → said ≡ skimmed o → starts ≡ directoryOf o .starts → lens ≡ directoryOf o .lens
-      → (said, record { kind = 0; count = 0; starts = starts; lens = lens }) ≡ shown o
+  pub refused-shown : (o : Outcome Reading) {said : Outcome Skimmed} {k : ℕ} {vs : List ℕ} {p : Stand} → said ≡ err k vs p → said ≡ skimmed o → starts ≡ directoryOf o .starts → lens ≡ directoryOf o .lens
+      → (said, record { kind = 0; count = 0; starts = starts; lens = lens }) ≡ shownCovenant o
   unfolding directoryOf
   refused-shown (ok c q) h e f g = absurd (never e h)
-  refused-shown (err k vs q) h e f g = ap₂ (λ (x : Outcome Said) (y : Covenant). (x, y)) e (rw (f, g))
+  refused-shown (err k vs q) h e f g = ap₂ (λ (x : Outcome Skimmed) (y : Covenant). (x, y)) e (rw (f, g))
 
 -- ---- what is said of a covenant tells of the outcome
 
-pub found : (o : Outcome Reading) {x : Said} {p : ℕ} → skimmed o ≡ ok x p → (c : Reading) × (o ≡ ok c p)
+pub found : (o : Outcome Reading) {x : Skimmed} {p : ℕ} → skimmed o ≡ ok x p → (c : Reading) × (o ≡ ok c p)
 found (ok c q) {x} {p} e = let h : q ≡ p = cc in (c, ap (ok c) h)
 found (err k vs q) e = absurd (never e refl)
 

@@ -11,9 +11,10 @@ use Rattle.words.proofs.Over.{laid-over, length-over}
 use Rattle.words.proofs.Laid.{Laid, over-nothing, both}
 use Rattle.refusal.specs.Outcome.{Wrote, wrote, refused}
 use Rattle.encoding.specs.Wire.{compact, compactSize, varbytes}
+use Rattle.encoding.specs.Joined.{joined}
 use Rattle.encoding.proofs.Compact.{length-compact, put-room, put-none}
 use Rattle.covenants.specs.Covenant.{bytesIn, contents}
-use Rattle.covenants.specs.Written.{itemsBytes, covenantBytes, parts, Held, tableSize, tableBytes, tableAnswer, tableContent}
+use Rattle.covenants.specs.Written.{covenantBytes, parts, Held, tableSize, tableBytes, tableAnswer, tableContent}
 use Rattle.covenants.proofs.Checks.{parts-more, parts-none, length-parts}
 
 -- what is laid where there is room
@@ -37,15 +38,15 @@ pub record Putting (source starts lens : List ℕ) (first count place : ℕ) (d�
   pub held : Held (length source) (parts starts lens (first + i) (count - i))
   pub done : List ℕ
   pub so-far : Laid d₀ place done d at
-  pub rest : done ++ itemsBytes (contents source (parts starts lens (first + i) (count - i))) ≡ itemsBytes (contents source (parts starts lens first count))
-  pub room : place + length (itemsBytes (contents source (parts starts lens first count))) ≤ length d₀
+  pub rest : done ++ joined varbytes (contents source (parts starts lens (first + i) (count - i))) ≡ joined varbytes (contents source (parts starts lens first count))
+  pub room : place + length (joined varbytes (contents source (parts starts lens first count))) ≤ length d₀
 
 module _ (source starts lens : List ℕ) (first count place : ℕ) (d₀ : List ℕ) where
   abbrev Whole : List ℕ
-  Whole = itemsBytes (contents source (parts starts lens first count))
+  Whole = joined varbytes (contents source (parts starts lens first count))
 
   abbrev Left : ℕ → List ℕ
-  Left i = itemsBytes (contents source (parts starts lens (first + i) (count - i)))
+  Left i = joined varbytes (contents source (parts starts lens (first + i) (count - i)))
 
   abbrev One : ℕ → List ℕ
   One i = varbytes (bytesIn source (getD starts (first + i) 0, getD lens (first + i) 0))
@@ -76,7 +77,7 @@ module _ (source starts lens : List ℕ) (first count place : ℕ) (d₀ : List 
       next-held = held-here .0
 
       split : Left i ≡ One i ++ Left (i + 1)
-      unfolding itemsBytes
+      unfolding joined
       split = rw step
 
       sum : length (r .done) + length (One i) + length (Left (i + 1)) ≡ length Whole
@@ -104,7 +105,7 @@ module _ (source starts lens : List ℕ) (first count place : ℕ) (d₀ : List 
           }
 
     pub ended : count ≤ i → d ≡ over place Whole d₀
-    unfolding itemsBytes
+    unfolding joined
     ended h =
         let k : count - i ≡ 0 = omega (arith, r .bound) in
         let all : r .done ≡ Whole = sym (append-nil (r .done)) ∙ (rw (parts-none starts lens (first + i) k) at (r .rest)) in
@@ -113,11 +114,11 @@ module _ (source starts lens : List ℕ) (first count place : ℕ) (d₀ : List 
 -- the kind, the count and the items
 pub whole-laid : (at kind : ℕ) (source : List ℕ) (ps : List (ℕ × ℕ)) (n : ℕ) (d : List ℕ) {d₁ d₂ d₃ : List ℕ} {place : ℕ} → length ps ≡ n → kind < 256
     → at + length (covenantBytes kind (contents source ps)) ≤ length d → place ≡ at + 1 + compactSize n
-    → d₁ ≡ laid at (bytes 1 kind) d → d₂ ≡ laid (at + 1) (compact n) d₁ → d₃ ≡ over place (itemsBytes (contents source ps)) d₂
+    → d₁ ≡ laid at (bytes 1 kind) d → d₂ ≡ laid (at + 1) (compact n) d₁ → d₃ ≡ over place (joined varbytes (contents source ps)) d₂
     → d₃ ≡ over at (covenantBytes kind (contents source ps)) d
 unfolding bytes covenantBytes
 whole-laid at kind source ps n d {d₁} {d₂} {d₃} {place} many byte fits p e₁ e₂ e₃ =
-    let xs : List ℕ = itemsBytes (contents source ps) in
+    let xs : List ℕ = joined varbytes (contents source ps) in
     let few : length (contents source ps) ≡ n = length-map ps (bytesIn source) ∙ many in
     let one : bytes 1 kind ≡ kind ∷ [] = rw mod-eq-of-lt in
     let two : length (compact n) ≡ compactSize n = length-compact n in
@@ -134,11 +135,11 @@ whole-laid at kind source ps n d {d₁} {d₂} {d₃} {place} many byte fits p e
 
 -- room for the whole, and where the items begin
 pub items-room : (at kind : ℕ) (source starts lens : List ℕ) (first count room : ℕ) {place : ℕ} → place ≡ at + 1 + compactSize count → at + length (tableBytes kind source starts lens first count) ≤ room
-    → place + length (itemsBytes (contents source (parts starts lens first count))) ≤ room
+    → place + length (joined varbytes (contents source (parts starts lens first count))) ≤ room
 unfolding covenantBytes
 items-room at kind source starts lens first count room {place} p h =
     let ps : List (ℕ × ℕ) = parts starts lens first count in
-    let xs : List ℕ = itemsBytes (contents source ps) in
+    let xs : List ℕ = joined varbytes (contents source ps) in
     let n = length (contents source ps) in
     let few : n ≡ count = length-map ps (bytesIn source) ∙ length-parts starts lens first count in
     omega (arith, length-append (compact n) xs, length-compact n, ap compactSize few)

@@ -123,7 +123,7 @@ pub covenant-opened : (limit : ℕ) (s : List ℕ) (at : ℕ) {allowance : ℕ} 
 unfolding covenantAt bodyAt
 covenant-opened limit s at {allowance} e = rw (← e) (sym (opening-then allowance s at (headAt allowance s at) (After allowance s at)))
 
--- what a head that was read behind the tests tells
+-- what a head that was read after the tests tells
 pub opened-read : {A : Type 0} (allowance : ℕ) (s : List ℕ) (at : ℕ) (o : Outcome A) {a : A} {next : ℕ} → opening allowance s at o ≡ ok a next
     → (at ≤ length s) × (2 ≤ allowance) × (o ≡ ok a next)
 unfolding inside opening

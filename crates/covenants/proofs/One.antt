@@ -11,8 +11,8 @@ use Rattle.covenants.specs.Kind.{isName, isLinked, isUnspendable}
 use Rattle.refusal.specs.Outcome.{Outcome}
 use Rattle.covenants.specs.Covenant.{maxEncodedSize, Reading, covenantAt, wholeCovenant, skimmed}
 use Rattle.covenants.specs.Written.{sizeAnswer, encodeAnswer, encodeContent, tableSize, tableAnswer, tableContent}
-use Rattle.covenants.specs.Items.{directoryItem, seekAt, wide, numberIn}
-use Rattle.covenants.specs.Paper.{covenantPaper, directoryOf, decodedPaper, shown, spotPaper, itemU8Paper, itemU32Paper, itemU64Paper, nameHashPaper, shownHash}
+use Rattle.covenants.specs.Items.{directoryItem, seekAt, ofWidth, numberIn}
+use Rattle.covenants.specs.Paper.{covenantPaper, directoryOf, decodedPaper, shownCovenant, spotPaper, itemU8Paper, itemU32Paper, itemU64Paper, nameHashPaper, shownItemHash}
 use Rattle.covenants.proofs.Same.{covenant-same, decoded-same, spot-same, item-u8-same, item-u32-same, item-u64-same, item-name-hash-same}
 use Rattle.covenants.specs.declared.ReadCovenant.{ReadCovenant}
 use Rattle.covenants.specs.declared.decode.Decoded.{Decoded}
@@ -39,13 +39,13 @@ is-unspendable-one kind = one
 pub read-one : (limit : ℕ) (s : List ℕ) (at : ℕ) {r r′ : ReadCovenant} → covenantPaper r ≡ skimmed (covenantAt limit s at) → covenantPaper r′ ≡ skimmed (covenantAt limit s at) → r ≡ r′
 read-one limit s at e f = covenant-same (one e f)
 
-pub decode-from-with-limit-one : (limit : ℕ) (s : List ℕ) (at : ℕ) {d d′ : Decoded} → decodedPaper d ≡ shown (covenantAt limit s at) → decodedPaper d′ ≡ shown (covenantAt limit s at) → d ≡ d′
+pub decode-from-with-limit-one : (limit : ℕ) (s : List ℕ) (at : ℕ) {d d′ : Decoded} → decodedPaper d ≡ shownCovenant (covenantAt limit s at) → decodedPaper d′ ≡ shownCovenant (covenantAt limit s at) → d ≡ d′
 decode-from-with-limit-one limit s at e f = decoded-same (one e f)
 
-pub decode-from-one : (s : List ℕ) (at : ℕ) {d d′ : Decoded} → decodedPaper d ≡ shown (covenantAt maxEncodedSize s at) → decodedPaper d′ ≡ shown (covenantAt maxEncodedSize s at) → d ≡ d′
+pub decode-from-one : (s : List ℕ) (at : ℕ) {d d′ : Decoded} → decodedPaper d ≡ shownCovenant (covenantAt maxEncodedSize s at) → decodedPaper d′ ≡ shownCovenant (covenantAt maxEncodedSize s at) → d ≡ d′
 decode-from-one s at e f = decoded-same (one e f)
 
-pub decode-one : (s : List ℕ) {d d′ : Decoded} → decodedPaper d ≡ shown (wholeCovenant s) → decodedPaper d′ ≡ shown (wholeCovenant s) → d ≡ d′
+pub decode-one : (s : List ℕ) {d d′ : Decoded} → decodedPaper d ≡ shownCovenant (wholeCovenant s) → decodedPaper d′ ≡ shownCovenant (wholeCovenant s) → d ≡ d′
 decode-one s e f = decoded-same (one e f)
 
 -- what a decoder into lent arrays says: the answer, and both arrays
@@ -73,7 +73,7 @@ module _ (s : List ℕ) (spot : Spot) where
   pub as-u64-one : {r r′ : ItemU64} → itemU64Paper r ≡ numberIn 8 s (spotPaper spot) → itemU64Paper r′ ≡ numberIn 8 s (spotPaper spot) → r ≡ r′
   as-u64-one e f = item-u64-same (one e f)
 
-  pub as-name-hash-one : {r r′ : ItemNameHash} → nameHashPaper r ≡ shownHash (wide 32 s (spotPaper spot)) → nameHashPaper r′ ≡ shownHash (wide 32 s (spotPaper spot)) → r ≡ r′
+  pub as-name-hash-one : {r r′ : ItemNameHash} → nameHashPaper r ≡ shownItemHash (ofWidth 32 s (spotPaper spot)) → nameHashPaper r′ ≡ shownItemHash (ofWidth 32 s (spotPaper spot)) → r ≡ r′
   as-name-hash-one e f = item-name-hash-same (one e f)
 
 pub find-one : (s : List ℕ) (at index : ℕ) {r r′ : Spot} → spotPaper r ≡ seekAt s at index → spotPaper r′ ≡ seekAt s at index → r ≡ r′
@@ -100,7 +100,7 @@ module _ (source starts lens : List ℕ) (count index : ℕ) where
   pub item-u64-one : {r r′ : ItemU64} → itemU64Paper r ≡ numberIn 8 source (directoryItem source starts lens count index) → itemU64Paper r′ ≡ numberIn 8 source (directoryItem source starts lens count index) → r ≡ r′
   item-u64-one e f = item-u64-same (one e f)
 
-  pub item-name-hash-one : {r r′ : ItemNameHash} → nameHashPaper r ≡ shownHash (wide 32 source (directoryItem source starts lens count index)) → nameHashPaper r′ ≡ shownHash (wide 32 source (directoryItem source starts lens count index)) → r ≡ r′
+  pub item-name-hash-one : {r r′ : ItemNameHash} → nameHashPaper r ≡ shownItemHash (ofWidth 32 source (directoryItem source starts lens count index)) → nameHashPaper r′ ≡ shownItemHash (ofWidth 32 source (directoryItem source starts lens count index)) → r ≡ r′
   item-name-hash-one e f = item-name-hash-same (one e f)
 
 module _ (source starts lens : List ℕ) (count : ℕ) where

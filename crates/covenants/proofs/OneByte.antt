@@ -4,6 +4,7 @@ use Prim.Native.Nat.{ℕ, _+_, _-_, _^_, _≤_, _<_}
 use native.Mathlib.Omega.{arith}
 use mathlib.Core.Bool.{true, false}
 use mathlib.Core.List.{List}
+use mathlib.Core.Option.{some}
 use lib.ListN.{length, getD}
 use borrow.Author.Tests.{lt-ltb, le-ltb}
 use Rattle.refusal.specs.Outcome.{Outcome, ok, past, manyAt}
@@ -13,7 +14,7 @@ use Rattle.encoding.proofs.Slice as slice
 use Rattle.encoding.proofs.Fixed.{byte-read, compact-byte}
 use Rattle.covenants.specs.Covenant.{allowed, itemAt, headAt}
 use Rattle.covenants.specs.Workers.{ShortAt, TwoShort}
-use Rattle.covenants.specs.Items.{there, seekAt}
+use Rattle.covenants.specs.Items.{seekAt}
 
 -- where none is there, nothing is asked of it
 pub no-item : {X : Type 0} → false ≡ true → X
@@ -51,7 +52,7 @@ two-short s at {count} {first} {next} {second} counted several few one low goes 
 
 -- the first two items, where the count and both lengths are one byte
 pub short-two : (s : List ℕ) (at : ℕ) {first next : ℕ} → length s < 2 ^ 64 → TwoShort s at → first ≡ getD s (at + 2) 0 → next ≡ at + 3 + first
-    → (there (at + 3, first) ≡ seekAt s at 0) × (there (next + 1, getD s next 0) ≡ seekAt s at 1)
+    → (some (at + 3, first) ≡ seekAt s at 0) × (some (next + 1, getD s next 0) ≡ seekAt s at 1)
 unfolding seekAt manyAt
 short-two s at {first} {next} big h one goes =
     let count = getD s (at + 1) 0 in

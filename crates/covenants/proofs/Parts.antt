@@ -4,12 +4,13 @@ use Prim.Native.Nat.{ℕ, zero, suc, _+_, _≤_, _<_}
 use native.Mathlib.Omega.{arith}
 use mathlib.Core.List.{List, [], _∷_}
 use mathlib.Core.Bool.{true, false}
+use mathlib.Core.Option.{some, none}
 use lib.ListN.{length, getD}
 use lib.Seq.{drop-cons, take-length}
 use borrow.Author.Tests.{eq-eqb, ne-eqb}
 use Rattle.words.specs.Sameness.{same}
 use Rattle.covenants.specs.Covenant.{bytesIn, contents}
-use Rattle.covenants.specs.Items.{there, absent, nth}
+use Rattle.covenants.specs.Items.{nth}
 
 -- an array of 32 bytes is its own part
 pub own-part : (h : List ℕ) → length h ≡ 32 → bytesIn h (0, 32) ≡ h
@@ -36,25 +37,25 @@ module _ (s t : List ℕ) where
 
 -- ---- the k-th of the items, by its place
 
-pub nth-there : (s : List ℕ) (xs : List (ℕ × ℕ)) (k : ℕ) {part : ℕ × ℕ} → nth xs k ≡ there part → getD (contents s xs) k [] ≡ bytesIn s part
+pub nth-there : (s : List ℕ) (xs : List (ℕ × ℕ)) (k : ℕ) {part : ℕ × ℕ} → nth xs k ≡ some part → getD (contents s xs) k [] ≡ bytesIn s part
 unfolding nth
 nth-there s [] k e = absurd (let z : _≡_ {A = ℕ} 0 1 = cc in omega arith)
 nth-there s (x ∷ xs) zero {part} e = let p : x ≡ part = cc in ap (bytesIn s) p
 nth-there s (x ∷ xs) (suc k) e = nth-there s xs k e
 
-pub nth-absent : (s : List ℕ) (xs : List (ℕ × ℕ)) (k : ℕ) → nth xs k ≡ absent → getD (contents s xs) k [] ≡ []
+pub nth-absent : (s : List ℕ) (xs : List (ℕ × ℕ)) (k : ℕ) → nth xs k ≡ none → getD (contents s xs) k [] ≡ []
 unfolding nth
 nth-absent s [] k e = refl
 nth-absent s (x ∷ xs) zero e = absurd (let z : _≡_ {A = ℕ} 0 1 = cc in omega arith)
 nth-absent s (x ∷ xs) (suc k) e = nth-absent s xs k e
 
-pub nth-long : (xs : List (ℕ × ℕ)) (k : ℕ) {part : ℕ × ℕ} → nth xs k ≡ there part → k < length xs
+pub nth-long : (xs : List (ℕ × ℕ)) (k : ℕ) {part : ℕ × ℕ} → nth xs k ≡ some part → k < length xs
 unfolding nth
 nth-long [] k e = absurd (let z : _≡_ {A = ℕ} 0 1 = cc in omega arith)
 nth-long (x ∷ xs) zero e = omega arith
 nth-long (x ∷ xs) (suc k) e = let h = nth-long xs k e in omega arith
 
-pub nth-short : (xs : List (ℕ × ℕ)) (k : ℕ) → nth xs k ≡ absent → length xs ≤ k
+pub nth-short : (xs : List (ℕ × ℕ)) (k : ℕ) → nth xs k ≡ none → length xs ≤ k
 unfolding nth
 nth-short [] k e = omega arith
 nth-short (x ∷ xs) zero e = absurd (let z : _≡_ {A = ℕ} 0 1 = cc in omega arith)

@@ -7,7 +7,7 @@ use mathlib.Core.Bool.{Bool, true, false}
 use lib.ListN.{length, getD, replicate}
 use borrow.Author.Tests.{le-ltb}
 use Rattle.words.proofs.Le.{part-long}
-use Rattle.words.specs.Buffers.{pick, fits, padded}
+use Rattle.words.specs.Buffers.{pick, fits, zeroPadded}
 use Rattle.refusal.specs.Outcome.{ok, manyAt, wrote, refused}
 use Rattle.refusal.proofs.Outcomes.{never-both}
 use Rattle.refusal.proofs.Many.{many-next}
@@ -64,7 +64,7 @@ parts-first [] firsts sizes = refl
 parts-first (x ∷ xs) firsts sizes = ap (λ ps. x ∷ ps) (parts-later (x .0) (x .1) (starts-of xs ++ firsts) (lens-of xs ++ sizes) 0 (length xs) ∙ parts-first xs firsts sizes)
 
 pub parts-listed : (xs : List (ℕ × ℕ)) → parts (listed (starts-of xs)) (listed (lens-of xs)) 0 (length xs) ≡ xs
-unfolding padded
+unfolding zeroPadded
 parts-listed xs = parts-first xs (replicate (1000 - length (starts-of xs)) 0) (replicate (1000 - length (lens-of xs)) 0)
 
 -- ---- items that were read lie within, are short, and stay within the allowance

@@ -23,8 +23,9 @@ unfoldable pub allowed : ℕ → ℕ → ℕ → Outcome ℕ
 allowed allowance start at =
     pick (ltb allowance (at - start)) (err 5 ((at - start) ∷ allowance ∷ []) at) (ok (allowance - (at - start)) at)
 
--- "each item a compact length, at most 1,000,000 (2 when read), then its bytes"; ".. then a length above the rest gives 5 {consumed + length, L};
--- only then may the item meet the end". The item is where its bytes stand: their start and their length
+-- "each item a compact length, at most 1,000,000 (2 when read), then its bytes"; ".. then a length above the rest gives
+-- 5 {consumed + length, L}; only then may the item meet the end". The item is where its bytes stand: their start and
+-- their length
 unfoldable pub itemAt : ℕ → ℕ → List ℕ → ℕ → Outcome (ℕ × ℕ)
 unfolding allowed
 itemAt allowance start s at =
@@ -58,7 +59,8 @@ unfoldable pub bodyAt : ℕ → List ℕ → ℕ → Outcome Reading
 bodyAt allowance s at =
     then (headAt allowance s at) (λ head next. then (manyAt (itemAt allowance at s) (head .1) next) (finished (head .0) at))
 
--- "Reading with an allowance L (capped at 1,000,009): L below 2 gives 5 {2, L}, reading nothing." A cursor beyond its slice comes "before anything else"
+-- "Reading with an allowance L (capped at 1,000,009): L below 2 gives 5 {2, L}, reading nothing." A cursor beyond its
+-- slice comes "before anything else"
 unfoldable pub opening : {A : Type 0} → ℕ → List ℕ → ℕ → Outcome A → Outcome A
 unfolding inside
 opening allowance s at body = inside s at (pick (ltb allowance 2) (err 5 (2 ∷ allowance ∷ []) at) body)
@@ -73,11 +75,11 @@ wholeCovenant s =
     (then (covenantAt maxEncodedSize s 0) (λ c next. then (finishAt s next) (λ nothing next. ok c next)))
 
 -- kind, count and bytes used up
-abbrev pub Said : Type 0
-Said = ℕ × ℕ × ℕ
+abbrev pub Skimmed : Type 0
+Skimmed = ℕ × ℕ × ℕ
 
 -- what is said of a covenant without its directory
-abbrev pub skimmed : Outcome Reading → Outcome Said
+abbrev pub skimmed : Outcome Reading → Outcome Skimmed
 skimmed o = then o (λ c next. ok (c .kind, length (c .items), c .used) next)
 
 -- the bytes of an item, and of all items, that stand in s

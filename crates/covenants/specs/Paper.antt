@@ -2,12 +2,12 @@
 use Prim.Native.Nat.{ℕ}
 use mathlib.Core.Bool.{Bool, true, false}
 use mathlib.Core.List.{List, [], map}
+use mathlib.Core.Option.{Option, some, none}
 use lib.ListN.{length, replicate}
-use Rattle.words.specs.Buffers.{padded}
+use Rattle.words.specs.Buffers.{zeroPadded}
 use Rattle.refusal.specs.Outcome.{Outcome, ok, err}
-use Rattle.refusal.specs.Paper.{stopped}
-use Rattle.covenants.specs.Covenant.{maxItems, Reading, Said, skimmed}
-use Rattle.covenants.specs.Items.{Maybe, there, absent}
+use Rattle.refusal.specs.Paper.{stopPaper}
+use Rattle.covenants.specs.Covenant.{maxItems, Reading, Skimmed, skimmed}
 use Rattle.covenants.specs.declared.Covenant.{Covenant}
 use Rattle.covenants.specs.declared.ReadCovenant.{ReadCovenant}
 use Rattle.covenants.specs.declared.ReadHead.{ReadHead}
@@ -18,17 +18,17 @@ use Rattle.covenants.specs.declared.items.ItemU32.{ItemU32}
 use Rattle.covenants.specs.declared.items.ItemU64.{ItemU64}
 use Rattle.covenants.specs.declared.items.ItemNameHash.{ItemNameHash}
 
-abbrev pub covenantPaper : ReadCovenant → Outcome Said
+abbrev pub covenantPaper : ReadCovenant → Outcome Skimmed
 covenantPaper (ReadCovenant.Accepted kind count used next) = ok (kind, count, used) (next .position)
-covenantPaper (ReadCovenant.Refused s) = stopped s
+covenantPaper (ReadCovenant.Refused s) = stopPaper s
 
 abbrev pub headPaper : ReadHead → Outcome (ℕ × ℕ)
 headPaper (ReadHead.Head kind count next) = ok (kind, count) (next .position)
-headPaper (ReadHead.Refused s) = stopped s
+headPaper (ReadHead.Refused s) = stopPaper s
 
 -- one of the directory's two arrays: the numbers that there are, and zeros
 abbrev pub listed : List ℕ → List ℕ
-listed xs = padded maxItems xs
+listed xs = zeroPadded maxItems xs
 
 -- the covenant of a reading; "Unused parts of an answer are zeros"
 unfoldable pub directoryOf : Outcome Reading → Covenant
@@ -41,34 +41,34 @@ directoryOf (ok c p) =
     }
 directoryOf (err k vs p) = record { kind = 0; count = 0; starts = listed []; lens = listed [] }
 
-abbrev pub decodedPaper : Decoded → Outcome Said × Covenant
+abbrev pub decodedPaper : Decoded → Outcome Skimmed × Covenant
 decodedPaper d = (covenantPaper (d .read), d .covenant)
 
-abbrev pub shown : Outcome Reading → Outcome Said × Covenant
-shown o = (skimmed o, directoryOf o)
+abbrev pub shownCovenant : Outcome Reading → Outcome Skimmed × Covenant
+shownCovenant o = (skimmed o, directoryOf o)
 
 -- ---- single items
 
-abbrev pub spotPaper : Spot → Maybe (ℕ × ℕ)
-spotPaper (Spot.Part start len) = there (start, len)
-spotPaper Spot.Absent = absent
+abbrev pub spotPaper : Spot → Option (ℕ × ℕ)
+spotPaper (Spot.Part start len) = some (start, len)
+spotPaper Spot.Absent = none
 
-abbrev pub itemU8Paper : ItemU8 → Maybe ℕ
-itemU8Paper (ItemU8.Value v) = there v
-itemU8Paper ItemU8.Absent = absent
+abbrev pub itemU8Paper : ItemU8 → Option ℕ
+itemU8Paper (ItemU8.Value v) = some v
+itemU8Paper ItemU8.Absent = none
 
-abbrev pub itemU32Paper : ItemU32 → Maybe ℕ
-itemU32Paper (ItemU32.Value v) = there v
-itemU32Paper ItemU32.Absent = absent
+abbrev pub itemU32Paper : ItemU32 → Option ℕ
+itemU32Paper (ItemU32.Value v) = some v
+itemU32Paper ItemU32.Absent = none
 
-abbrev pub itemU64Paper : ItemU64 → Maybe ℕ
-itemU64Paper (ItemU64.Value v) = there v
-itemU64Paper ItemU64.Absent = absent
+abbrev pub itemU64Paper : ItemU64 → Option ℕ
+itemU64Paper (ItemU64.Value v) = some v
+itemU64Paper ItemU64.Absent = none
 
 abbrev pub nameHashPaper : ItemNameHash → Bool × List ℕ
 nameHashPaper r = (r .found, r .hash .0)
 
 -- what is handed out of 32 bytes that may be absent: "Unused parts of an answer are zeros"
-abbrev pub shownHash : Maybe (List ℕ) → Bool × List ℕ
-shownHash (there bs) = (true, bs)
-shownHash absent = (false, replicate 32 0)
+abbrev pub shownItemHash : Option (List ℕ) → Bool × List ℕ
+shownItemHash (some bs) = (true, bs)
+shownItemHash none = (false, replicate 32 0)

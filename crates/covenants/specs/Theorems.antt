@@ -1,11 +1,12 @@
--- What was written reads back, what was accepted is what would be written, and items agree. The statements; their proofs
--- are in proofs/Theorems.antt.
+-- What was written reads back, what was accepted is what would be written, and items agree. The statements; their
+-- proofs are in proofs/Theorems.antt.
 use mathlib.Core.Path.{_≡_}
 use Prim.Native.Nat.{ℕ, _+_, _-_, _≤_, _<_}
-use mathlib.Core.List.{List, [], _∷_, _++_}
+use mathlib.Core.List.{List, _++_}
 use lib.ListN.{length, take, drop}
 use Rattle.words.specs.Words.{Bytes}
 use Rattle.refusal.specs.Outcome.{ok, wrote}
+use Rattle.encoding.specs.Joined.{All}
 use Rattle.encoding.specs.Theorems.{Lent}
 use Rattle.covenants.specs.Covenant.{maxItems, maxItemSize, maxEncodedSize, Reading, covenantAt, contents}
 use Rattle.covenants.specs.Written.{covenantBytes, covenantSize, parts, Held, sizeAnswer, directoryBytes, encodeAnswer, encodeContent, tableSize, tableAnswer, tableContent}
@@ -24,8 +25,7 @@ written c = covenantBytes (c .kind) (c .items)
 
 -- none of the items is too long
 abbrev pub Short : List (List ℕ) → Type 0
-Short [] = Unit
-Short (item ∷ items) = (length item ≤ maxItemSize) × Short items
+Short items = All (λ (item : List ℕ). length item ≤ maxItemSize) items
 
 -- "writable": what the writer accepts (`AcceptedIsWritable`)
 pub record Writable (c : Meant) : Type 0 where

@@ -7,17 +7,14 @@ use lib.Dec.{ltb, leb}
 use Rattle.words.specs.Buffers.{pick, over}
 use Rattle.refusal.specs.Outcome.{Wrote, wrote, refused, next, filled}
 use Rattle.encoding.specs.Wire.{compact, compactSize, varbytes, putAnswer}
+use Rattle.encoding.specs.Joined.{All, joined}
 use Rattle.covenants.specs.Covenant.{maxItems, maxItemSize, maxEncodedSize, contents}
 
 -- ---- the bytes of a covenant, by its kind and its items
 
-unfoldable pub itemsBytes : List (List ℕ) → List ℕ
-itemsBytes [] = []
-itemsBytes (item ∷ items) = varbytes item ++ itemsBytes items
-
 -- "Kind byte; compact count, .. and each item a compact length, .. then its bytes"
 unfoldable pub covenantBytes : ℕ → List (List ℕ) → List ℕ
-covenantBytes kind items = kind ∷ (compact (length items) ++ itemsBytes items)
+covenantBytes kind items = kind ∷ (compact (length items) ++ joined varbytes items)
 
 -- how many bytes those are: the size over kind and items
 unfoldable pub itemsSize : List (List ℕ) → ℕ
@@ -41,8 +38,7 @@ heldFrom size i (p ∷ ps) = pick (ltb size (p .0 + p .1)) (refused 30 (i ∷ []
 
 -- each of the items lies within a source of so many bytes
 abbrev pub Held : ℕ → List (ℕ × ℕ) → Type 0
-Held size [] = Unit
-Held size (p ∷ ps) = (p .0 + p .1 ≤ size) × Held size ps
+Held size ps = All (λ (p : ℕ × ℕ). p .0 + p .1 ≤ size) ps
 
 -- "then items in order: length (5), running size (5)", after so many bytes
 unfoldable pub sizeFrom : ℕ → List (ℕ × ℕ) → Wrote

@@ -17,7 +17,7 @@ ghost use Prim.Native.Nat.{_≤_};
 ghost use Rattle.refusal.specs.Outcome.{Outcome, past, manyAt, listOf};
 ghost use Rattle.encoding.specs.Paper.{movedPaper};
 ghost use Rattle.covenants.specs.Covenant.{maxItems, maxEncodedSize, Reading, itemAt, covenantAt, wholeCovenant, skimmed};
-ghost use Rattle.covenants.specs.Paper.{covenantPaper, listed, directoryOf, decodedPaper, shown};
+ghost use Rattle.covenants.specs.Paper.{covenantPaper, listed, directoryOf, decodedPaper, shownCovenant};
 ghost use Rattle.covenants.specs.Workers.{starts-of, lens-of};
 
 // The answer of a decoder: what was read, and the covenant, all zeros where it was refused.
@@ -79,7 +79,7 @@ fn fill(
 
 // What was read, beside the covenant that it says, with this directory.
 fn assembled(read: ReadCovenant, starts: [usize; 1000], lens: [usize; 1000]) -> Decoded
-    ensures { λ d. ⌜ ((o : Outcome Reading) → covenantPaper read ≡ skimmed o → starts ≡ directoryOf o .starts → lens ≡ directoryOf o .lens → decodedPaper d ≡ shown o) ⌝ }
+    ensures { λ d. ⌜ ((o : Outcome Reading) → covenantPaper read ≡ skimmed o → starts ≡ directoryOf o .starts → lens ≡ directoryOf o .lens → decodedPaper d ≡ shownCovenant o) ⌝ }
 {
     match read {
         ReadCovenant::Accepted {
@@ -136,7 +136,7 @@ impl Covenant {
 
     // A covenant under an allowance.
     pub fn decode_from_with_limit(c: Cursor, s: &[u8], limit: usize) -> Decoded
-        ensures { λ d. ⌜ decodedPaper d ≡ shown (covenantAt limit (now (s .entry)) (c .position)) ⌝ }
+        ensures { λ d. ⌜ decodedPaper d ≡ shownCovenant (covenantAt limit (now (s .entry)) (c .position)) ⌝ }
     {
         let mut starts = [0usize; 1000];
         let mut lens = [0usize; 1000];
@@ -145,7 +145,7 @@ impl Covenant {
     }
 
     pub fn decode_from(c: Cursor, s: &[u8]) -> Decoded
-        ensures { λ d. ⌜ decodedPaper d ≡ shown (covenantAt maxEncodedSize (now (s .entry)) (c .position)) ⌝ }
+        ensures { λ d. ⌜ decodedPaper d ≡ shownCovenant (covenantAt maxEncodedSize (now (s .entry)) (c .position)) ⌝ }
     {
         Covenant::decode_from_with_limit(c, s, Covenant::MAX_ENCODED_SIZE)
     }
@@ -190,7 +190,7 @@ impl Covenant {
 
     // A covenant that is the whole input.
     pub fn decode(s: &[u8]) -> Decoded
-        ensures { λ d. ⌜ decodedPaper d ≡ shown (wholeCovenant (now (s .entry))) ⌝ }
+        ensures { λ d. ⌜ decodedPaper d ≡ shownCovenant (wholeCovenant (now (s .entry))) ⌝ }
     {
         let mut starts = [0usize; 1000];
         let mut lens = [0usize; 1000];

@@ -11,6 +11,7 @@ use encoding::read::Moved;
 use encoding::read::ReadSize;
 use encoding::read::ReadSpan;
 use encoding::read::ReadU8;
+use encoding::read::cut;
 use refusal::Refusal;
 use refusal::Stop;
 ghost use mathlib.Core.Path.{_≡_};
@@ -22,7 +23,8 @@ ghost use Rattle.encoding.specs.Paper.{spanPaper, movedPaper};
 ghost use Rattle.covenants.specs.Covenant.{maxEncodedSize, itemAt, headAt, opening, covenantAt, skimmed};
 ghost use Rattle.covenants.specs.Paper.{covenantPaper, headPaper};
 
-// A covenant as a flat directory over lent bytes: where each of at most 1,000 items starts and how long it is, and zeros after them.
+// A covenant as a flat directory over lent bytes: where each of at most 1,000 items starts and how long it is, and
+// zeros after them.
 pub struct Covenant {
     pub kind: u8,
     pub count: usize,
@@ -44,7 +46,8 @@ impl Covenant {
         let allowance = capped(limit);
         match opened(c, s, allowance) {
             ReadHead::Head { kind, count, next } => {
-                // `&s[..]` hands on the pointer and the length, so that the loop does not wait for a store.
+                // `&s[..]` hands on the pointer and the length, so that the loop does not wait for a store: with `s`
+                // four items take 1.8 times as long to accept (bench/README.md).
                 let passed = pass_items(next, &s[..], c.position, allowance, count);
                 completed(c.position, kind, count, passed)
             }
@@ -74,23 +77,14 @@ pub(crate) enum ReadHead {
     Refused(Stop),
 }
 
-// 5: more bytes than are allowed, be it those consumed, those that a length asks for, those of the whole input, or the two of the least covenant.
+// 5: more bytes than are allowed, be it those consumed, those that a length asks for, those of the whole input, or the
+// two of the least covenant.
 pub(crate) fn too_large(actual: usize, maximum: usize, position: usize) -> Stop
     ensures { λ r. ⌜ (r .refusal ≡ Refusal.TooLarge actual maximum) × (standing r ≡ position) ⌝ }
 {
     Stop {
         refusal: Refusal::TooLarge { actual, maximum },
         position,
-    }
-}
-
-// 1: so many bytes are missing to the place where a covenant would begin.
-fn beyond(at: usize, needed: usize) -> Stop
-    ensures { λ r. ⌜ (r .refusal ≡ Refusal.UnexpectedEnd at needed) × (standing r ≡ at) ⌝ }
-{
-    Stop {
-        refusal: Refusal::UnexpectedEnd { offset: at, needed },
-        position: at,
     }
 }
 
@@ -153,7 +147,7 @@ pub(crate) fn opened(c: Cursor, s: &[u8], allowance: usize) -> ReadHead
 {
     let at = c.position;
     if s.len() < at {
-        return ReadHead::Refused(beyond(at, at - s.len()));
+        return ReadHead::Refused(cut(at, at - s.len()));
     }
     if allowance < 2 {
         return ReadHead::Refused(too_large(2, allowance, at));

@@ -15,12 +15,6 @@ pub(crate) struct Reached {
     pub at: usize,
 }
 
-fn wide(x: u8) -> usize
-    ensures { λ r. ⌜ r ≡ x ⌝ }
-{
-    x as usize
-}
-
 // No item ends later: here the bytes end, or the allowance does.
 fn latest(length: usize, start: usize, allowance: usize) -> usize
     ensures { λ r. ⌜ r ≡ min length (start + allowance) ⌝ }
@@ -40,7 +34,8 @@ struct Next {
     at: usize,
 }
 
-// The item at `at`, if it is short and ends by `end`. An empty one is told apart, so that the next place does not wait for its length.
+// The item at `at`, if it is short and ends by `end`. An empty one is told apart, so that the next place does not wait
+// for its length: without that a covenant of 1,000 empty items takes 3.8 times as long to accept (bench/README.md).
 fn short_item(s: &[u8], end: usize, at: usize) -> Next
     requires { ⌜ end ≤ length (now s) ⌝ }
     ensures { λ r. ⌜ (r .there ≡ true → ShortAt (now (s .entry)) end at (r .at)) ⌝ }
@@ -58,7 +53,7 @@ fn short_item(s: &[u8], end: usize, at: usize) -> Next
     if 252 < size {
         return Next { there: false, at };
     }
-    let next = at + 1 + wide(size);
+    let next = at + 1 + size as usize;
     Next {
         there: next <= end,
         at: next,
@@ -66,6 +61,7 @@ fn short_item(s: &[u8], end: usize, at: usize) -> Next
 }
 
 // Short items are passed, up to the first that is not short or does not fit. What is left to pass comes to the same.
+// Without it four items take a third more instructions to accept, and links 12 % more (bench/README.md).
 pub(crate) fn short_items(
     s: &[u8],
     start: usize,
@@ -92,7 +88,8 @@ pub(crate) fn short_items(
     Reached { passed: i, at }
 }
 
-// The same, each item into its place of a directory that is being filled.
+// The same, each item into its place of a directory that is being filled. It is for directories of many items: without
+// it 1,000 empty ones take 2.8 times as long (bench/README.md).
 pub(crate) fn short_entries(
     s: &[u8],
     start: usize,

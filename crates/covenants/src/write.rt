@@ -13,10 +13,11 @@ ghost use Prim.Native.Nat.{ℕ, _+_, _≤_};
 ghost use lib.ListN.{length};
 ghost use Rattle.words.specs.Buffers.{over};
 ghost use Rattle.encoding.specs.Wire.{varbytes};
+ghost use Rattle.encoding.specs.Joined.{joined};
 ghost use Rattle.encoding.specs.Paper.{putPaper};
 ghost use Rattle.covenants.specs.Covenant.{maxEncodedSize, bytesIn, contents};
 ghost use Rattle.covenants.specs.Workers.{There};
-ghost use Rattle.covenants.specs.Written.{parts, Held, itemsBytes, sizeFrom, sizeAnswer, encodeAnswer, encodeContent, entryHeld, tableHeld, tableSize, tableBytes, tableAnswer, tableContent};
+ghost use Rattle.covenants.specs.Written.{parts, Held, sizeFrom, sizeAnswer, encodeAnswer, encodeContent, entryHeld, tableHeld, tableSize, tableBytes, tableAnswer, tableContent};
 
 // Whether item i, of the entries from `first` on, lies within a source of `size` bytes; one without an entry does not.
 fn entry_held<'a>(
@@ -143,8 +144,8 @@ fn put_items<'a>(
     count: usize,
 )
     requires { ⌜ There (now starts) first count × There (now lens) first count × Held (length (now source)) (parts (now starts) (now lens) first count) ⌝ }
-    requires { ⌜ place + length (itemsBytes (contents (now source) (parts (now starts) (now lens) first count))) ≤ length (now dest) ⌝ }
-    ensures { λ _. ⌜ now (dest .exit) ≡ over place (itemsBytes (contents (now (source .entry)) (parts (now (starts .entry)) (now (lens .entry)) first count))) (now (dest .entry)) ⌝ }
+    requires { ⌜ place + length (joined varbytes (contents (now source) (parts (now starts) (now lens) first count))) ≤ length (now dest) ⌝ }
+    ensures { λ _. ⌜ now (dest .exit) ≡ over place (joined varbytes (contents (now (source .entry)) (parts (now (starts .entry)) (now (lens .entry)) first count))) (now (dest .entry)) ⌝ }
 {
     let mut at = place;
     let mut i: usize = 0;
@@ -188,7 +189,8 @@ pub fn encode_from_table<'a>(
     first: usize,
     count: usize,
 ) -> Put
-    ensures { λ r. ⌜ (putPaper r ≡ tableAnswer at kind (now (source .entry)) (now (starts .entry)) (now (lens .entry)) first count (now (dest .entry))) × (now (dest .exit) ≡ tableContent at kind (now (source .entry)) (now (starts .entry)) (now (lens .entry)) first count (now (dest .entry))) ⌝ }
+    ensures { λ r. ⌜ putPaper r ≡ tableAnswer at kind (now (source .entry)) (now (starts .entry)) (now (lens .entry)) first count (now (dest .entry)) ⌝ }
+    ensures { λ _. ⌜ now (dest .exit) ≡ tableContent at kind (now (source .entry)) (now (starts .entry)) (now (lens .entry)) first count (now (dest .entry)) ⌝ }
 {
     match table_size(source, starts, lens, first, count) {
         Put::Written(n) => {
@@ -214,7 +216,8 @@ pub fn encode<'a>(
     lens: &'a [usize; 1000],
     count: usize,
 ) -> Put
-    ensures { λ r. ⌜ (putPaper r ≡ encodeAnswer kind (now (source .entry)) (now (starts .entry)) (now (lens .entry)) count (now (dest .entry))) × (now (dest .exit) ≡ encodeContent kind (now (source .entry)) (now (starts .entry)) (now (lens .entry)) count (now (dest .entry))) ⌝ }
+    ensures { λ r. ⌜ putPaper r ≡ encodeAnswer kind (now (source .entry)) (now (starts .entry)) (now (lens .entry)) count (now (dest .entry)) ⌝ }
+    ensures { λ _. ⌜ now (dest .exit) ≡ encodeContent kind (now (source .entry)) (now (starts .entry)) (now (lens .entry)) count (now (dest .entry)) ⌝ }
 {
     encode_from_table(dest, 0, kind, source, starts, lens, 0, count)
 }

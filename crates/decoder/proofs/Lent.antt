@@ -1,7 +1,10 @@
--- A local that holds a `Decoder<'a>` is lent by `&mut` for a lifetime that is made for a call, within 'a, and comes back.
---     Loan h ν δ       the reference to the decoder h under the name δ for ν within 'a, a token of that lifetime and one of 'a for the callee, and what the lender keeps
+-- A local that holds a `Decoder<'a>` is lent by `&mut` for a lifetime that is made for a call, within 'a, and comes
+-- back.
+--     Loan h ν δ       the reference to the decoder h under the name δ for ν within 'a, a token of that lifetime and
+--                      one of 'a for the callee, and what the lender keeps
 --     lends            the local's cell ∗ what h owns ∗ ['a]_q  ⊢ ⇛ ∃ ν δ. Loan h ν δ
---     comes-back       the two tokens ∗ what the lender keeps ∗ the reference's last value h′  ⊢ ⇛ (the local's cell ∗ what h′ owns ∗ ['a]_q)
+--     comes-back       the two tokens ∗ what the lender keeps ∗ the reference's last value h′  ⊢ ⇛ (the local's cell ∗
+--                      what h′ owns ∗ ['a]_q)
 -- Assumes `Given`.
 use Prim.Native.Nat.{ℕ}
 use mathlib.Core.List.{List, [], _∷_}

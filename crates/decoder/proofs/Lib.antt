@@ -1,5 +1,4 @@
 pub mod Chain
-pub mod Spots
 pub mod Lent
 pub mod Parts
 pub mod Theorems

@@ -11,21 +11,21 @@ use Rattle.encoding.specs.declared.read.ReadSize.{ReadSize}
 use Rattle.encoding.specs.declared.read.ReadSpan.{ReadSpan}
 use Rattle.encoding.specs.declared.read.Moved.{Moved}
 use Rattle.decoder.specs.declared.Decoder.{Decoder}
-use Rattle.decoder.specs.Held.{after, wholeVarbytes}
+use Rattle.decoder.specs.Held.{decoderAfter, wholeVarbytes}
 
 pub new-one : (input : RefT (List ℕ)) {r r′ : Decoder} → (r .input ≡ input) × (r .position ≡ 0) → (r′ .input ≡ input) × (r′ .position ≡ 0) → r ≡ r′
 new-one input e f i = record { input = one (e .0) (f .0) i; position = one (e .1) (f .1) i }
 
 module _ (d : Decoder) where
   pub read-compact-usize-one : (maximum : ℕ) {r r′ : ReadSize} {d₁ d₂ : Decoder}
-      → (sizePaper r ≡ compactMost maximum (now (d .input)) (d .position)) × (d₁ ≡ after d (sizePaper r))
-      → (sizePaper r′ ≡ compactMost maximum (now (d .input)) (d .position)) × (d₂ ≡ after d (sizePaper r′)) → (r ≡ r′) × (d₁ ≡ d₂)
-  read-compact-usize-one maximum e f = let p = one (e .0) (f .0) in (size-same p, e .1 ∙ ap (after d) p ∙ sym (f .1))
+      → (sizePaper r ≡ compactMost maximum (now (d .input)) (d .position)) × (d₁ ≡ decoderAfter d (sizePaper r))
+      → (sizePaper r′ ≡ compactMost maximum (now (d .input)) (d .position)) × (d₂ ≡ decoderAfter d (sizePaper r′)) → (r ≡ r′) × (d₁ ≡ d₂)
+  read-compact-usize-one maximum e f = let p = one (e .0) (f .0) in (size-same p, e .1 ∙ ap (decoderAfter d) p ∙ sym (f .1))
 
   pub read-slice-one : (length : ℕ) {r r′ : ReadSpan} {d₁ d₂ : Decoder}
-      → (spanPaper r ≡ sliceAt length (now (d .input)) (d .position)) × (d₁ ≡ after d (spanPaper r))
-      → (spanPaper r′ ≡ sliceAt length (now (d .input)) (d .position)) × (d₂ ≡ after d (spanPaper r′)) → (r ≡ r′) × (d₁ ≡ d₂)
-  read-slice-one length e f = let p = one (e .0) (f .0) in (span-same p, e .1 ∙ ap (after d) p ∙ sym (f .1))
+      → (spanPaper r ≡ sliceAt length (now (d .input)) (d .position)) × (d₁ ≡ decoderAfter d (spanPaper r))
+      → (spanPaper r′ ≡ sliceAt length (now (d .input)) (d .position)) × (d₂ ≡ decoderAfter d (spanPaper r′)) → (r ≡ r′) × (d₁ ≡ d₂)
+  read-slice-one length e f = let p = one (e .0) (f .0) in (span-same p, e .1 ∙ ap (decoderAfter d) p ∙ sym (f .1))
 
   pub finish-one : {r r′ : Moved} → movedPaper r ≡ finishAt (now (d .input)) (d .position) → movedPaper r′ ≡ finishAt (now (d .input)) (d .position) → r ≡ r′
   finish-one e f = moved-same (one e f)

@@ -1,4 +1,5 @@
--- A `Decoder<'a>` as the walks of its functions meet it: its type and laws, the machine value of what it holds, the cursor that is made at its position, and the struct at another position.
+-- A `Decoder<'a>` as the walks of its functions meet it: its type and laws, the machine value of what it holds, the
+-- cursor that is made at its position, and the struct at another position.
 -- Assumes `Given`.
 use mathlib.Core.Path.{refl}
 use Prim.Native.Nat.{ℕ, _<_, _^_}

@@ -8,7 +8,7 @@ use Rattle.refusal.specs.Outcome.{Outcome, ok, err, then}
 use Rattle.refusal.proofs.Outcomes.{then-assoc}
 use Rattle.encoding.specs.Wire.{inside, most, sliceAt, boundedAt, compactMost, varbytesAt, finishAt}
 use Rattle.encoding.proofs.Fixed.{most-moves}
-use Rattle.decoder.specs.Held.{lastSlice, wholeVarbytes}
+use Rattle.decoder.specs.Held.{wholeVarbytes}
 use Rattle.decoder.specs.Theorems.{AsTheCursor}
 
 -- what comes after a read need agree only where the read was not refused
@@ -22,7 +22,7 @@ unfolding inside most boundedAt
 bounded-slice n maximum s at few in-it = simp (le-ltb _ _ in-it, le-ltb _ _ few)
 
 pub as-the-cursor : AsTheCursor
-unfolding lastSlice wholeVarbytes varbytesAt
+unfolding wholeVarbytes varbytesAt
 as-the-cursor maximum s lent =
     then-alike (compactMost maximum s 0) _ _ (λ n next e. let m = most-moves maximum s 0 lent e in ap (λ o. then o (λ part end. then (finishAt s end) (λ _ at. ok part at))) (bounded-slice n maximum s next (m .2) (m .1)))
     ∙ sym (then-assoc (compactMost maximum s 0) (λ n next. boundedAt n maximum s next) (λ part end. then (finishAt s end) (λ _ at. ok part at)))

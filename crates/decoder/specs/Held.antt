@@ -5,20 +5,17 @@ use Rattle.refusal.specs.Outcome.{positionOf, Outcome, ok, err, then}
 use Rattle.encoding.specs.Wire.{compactMost, sliceAt, finishAt}
 use Rattle.decoder.specs.declared.Decoder.{Decoder}
 
--- "A refused read .. also returns the position where the Rust's `Decoder` then stands"; one that was not refused stands after what it read
+-- "A refused read .. also returns the position where the Rust's `Decoder` then stands"; one that was not refused stands
+-- after what it read
 abbrev pub stands : {A : Type 0} → Outcome A → ℕ
 stands (ok a next) = next
 stands (err k vs p) = positionOf p
 
 -- the decoder after a read: the same slice at the same place, and the position in the read's outcome
-abbrev pub after : {A : Type 0} → Decoder → Outcome A → Decoder
-after d o = record { input = d .input; position = stands o }
+abbrev pub decoderAfter : {A : Type 0} → Decoder → Outcome A → Decoder
+decoderAfter d o = record { input = d .input; position = stands o }
 
--- the next n bytes, where they stand, and nothing after them
-unfoldable pub lastSlice : ℕ → List ℕ → ℕ → Outcome (ℕ × ℕ)
-lastSlice n s at = then (sliceAt n s at) (λ part end. then (finishAt s end) (λ _ at. ok part at))
-
--- the whole input is a compact size of at most maximum and as many bytes: where they stand. Three reads in a row, and the first refusal is the answer
+-- the whole input is a compact size of at most maximum and as many bytes: where they stand. Three reads in a row, and
+-- the first refusal is the answer
 unfoldable pub wholeVarbytes : ℕ → List ℕ → Outcome (ℕ × ℕ)
-unfolding lastSlice
-wholeVarbytes maximum s = then (compactMost maximum s 0) (λ n next. lastSlice n s next)
+wholeVarbytes maximum s = then (compactMost maximum s 0) (λ n next. then (sliceAt n s next) (λ part end. then (finishAt s end) (λ _ at. ok part at)))

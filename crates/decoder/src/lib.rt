@@ -1,4 +1,5 @@
-// A reader that holds the lent bytes and a position in them, as the Rust's `Decoder<'input>` does: thin functions over the cursor of `encoding`.
+// A reader that holds the lent bytes and a position in them, as the Rust's `Decoder<'input>` does: thin functions over
+// the cursor of `encoding`.
 use encoding::read::Cursor;
 use encoding::read::Moved;
 use encoding::read::ReadSize;
@@ -7,7 +8,8 @@ ghost use mathlib.Core.Path.{_≡_};
 ghost use Rattle.refusal.specs.Outcome.{then, ok};
 ghost use Rattle.encoding.specs.Wire.{compactMost, sliceAt, finishAt};
 ghost use Rattle.encoding.specs.Paper.{sizePaper, spanPaper, movedPaper};
-ghost use Rattle.decoder.specs.Held.{stands, after, lastSlice, wholeVarbytes};
+ghost use Rattle.decoder.specs.Held.{stands, decoderAfter, wholeVarbytes};
+ghost use Rattle.decoder.specs.Workers.{sizeIn};
 
 pub struct Decoder<'a> {
     pub input: &'a [u8],
@@ -46,7 +48,7 @@ impl<'a> Decoder<'a> {
     }
 
     pub fn read_compact_usize<'s>(&'s mut self, maximum: usize) -> ReadSize
-        ensures { λ r. ⌜ (sizePaper r ≡ compactMost maximum (now (now (self .entry) .input)) (now (self .entry) .position)) × (now (self .exit) ≡ after (now (self .entry)) (sizePaper r)) ⌝ }
+        ensures { λ r. ⌜ (sizePaper r ≡ compactMost maximum (now (now (self .entry) .input)) (now (self .entry) .position)) × (now (self .exit) ≡ decoderAfter (now (self .entry)) (sizePaper r)) ⌝ }
     {
         let cursor = Cursor {
             position: self.position,
@@ -57,7 +59,7 @@ impl<'a> Decoder<'a> {
     }
 
     pub fn read_slice<'s>(&'s mut self, length: usize) -> ReadSpan
-        ensures { λ r. ⌜ (spanPaper r ≡ sliceAt length (now (now (self .entry) .input)) (now (self .entry) .position)) × (now (self .exit) ≡ after (now (self .entry)) (spanPaper r)) ⌝ }
+        ensures { λ r. ⌜ (spanPaper r ≡ sliceAt length (now (now (self .entry) .input)) (now (self .entry) .position)) × (now (self .exit) ≡ decoderAfter (now (self .entry)) (spanPaper r)) ⌝ }
     {
         let cursor = Cursor {
             position: self.position,
@@ -75,38 +77,15 @@ impl<'a> Decoder<'a> {
         };
         cursor.finish(self.input)
     }
+}
 
-    // A span that this reader has read, where nothing is left after it.
-    fn ended(self, span: ReadSpan) -> ReadSpan
-        ensures { λ r. ⌜ spanPaper r ≡ then (spanPaper span) (λ part _. then (finishAt (now (self .entry .input)) (self .entry .position)) (λ _ at. ok part at)) ⌝ }
-    {
-        match span {
-            ReadSpan::Span {
-                start,
-                len,
-                next: _,
-            } => ending(start, len, self.finish()),
-            ReadSpan::Refused(stop) => ReadSpan::Refused(stop),
-        }
-    }
-
-    // The next `length` bytes, and nothing after them.
-    fn last_slice(self, length: usize) -> ReadSpan
-        ensures { λ r. ⌜ spanPaper r ≡ lastSlice length (now (self .entry .input)) (self .entry .position) ⌝ }
-    {
-        let mut decoder = self;
-        let span = decoder.read_slice(length);
-        decoder.ended(span)
-    }
-
-    // As many bytes as a size that was read says, and nothing after them.
-    fn sized(self, size: ReadSize) -> ReadSpan
-        ensures { λ r. ⌜ spanPaper r ≡ then (sizePaper size) (λ n _. lastSlice n (now (self .entry .input)) (self .entry .position)) ⌝ }
-    {
-        match size {
-            ReadSize::Value(length, _) => self.last_slice(length),
-            ReadSize::Refused(stop) => ReadSpan::Refused(stop),
-        }
+// The size that was read; 0 where it was refused, and what is read by it then is not told.
+fn length_of(read: ReadSize) -> usize
+    ensures { λ n. ⌜ n ≡ sizeIn (sizePaper read) ⌝ }
+{
+    match read {
+        ReadSize::Value(length, _) => length,
+        ReadSize::Refused(_) => 0,
     }
 }
 
@@ -120,11 +99,39 @@ fn ending(start: usize, len: usize, end: Moved) -> ReadSpan
     }
 }
 
-// The whole of `input` is a compact size of at most `maximum` and as many bytes: the Rust's `read_varbytes`, and `finish`.
+// A span and the end after it: the span, or the first refusal.
+fn ended(span: ReadSpan, end: Moved) -> ReadSpan
+    ensures { λ r. ⌜ spanPaper r ≡ then (spanPaper span) (λ part _. then (movedPaper end) (λ _ at. ok part at)) ⌝ }
+{
+    match span {
+        ReadSpan::Span {
+            start,
+            len,
+            next: _,
+        } => ending(start, len, end),
+        ReadSpan::Refused(stop) => ReadSpan::Refused(stop),
+    }
+}
+
+// A size, the span of that size and the end after it: the span, or the first refusal.
+fn whole(size: ReadSize, span: ReadSpan, end: Moved) -> ReadSpan
+    ensures { λ r. ⌜ spanPaper r ≡ then (sizePaper size) (λ _ _. then (spanPaper span) (λ part _. then (movedPaper end) (λ _ at. ok part at))) ⌝ }
+{
+    match size {
+        ReadSize::Value(_, _) => ended(span, end),
+        ReadSize::Refused(stop) => ReadSpan::Refused(stop),
+    }
+}
+
+// The whole of `input` is a compact size of at most `maximum` and as many bytes: the Rust's `read_varbytes`, and
+// `finish`.
 pub fn whole_varbytes(input: &[u8], maximum: usize) -> ReadSpan
     ensures { λ r. ⌜ spanPaper r ≡ wholeVarbytes maximum (now (input .entry)) ⌝ }
 {
     let mut decoder = Decoder::new(input);
     let size = decoder.read_compact_usize(maximum);
-    decoder.sized(size)
+    let length = length_of(size);
+    let span = decoder.read_slice(length);
+    let end = decoder.finish();
+    whole(size, span, end)
 }

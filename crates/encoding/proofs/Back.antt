@@ -1,17 +1,18 @@
 -- Reading back what was written: it is read as what it was made of, and what follows it stays.
-use mathlib.Core.Path.{_≡_, refl, ap, sym, _∙_}
+use mathlib.Core.Path.{_≡_, refl, ap, ap₂, sym, _∙_}
 use Prim.Native.Nat.{ℕ, _+_, _^_, _≤_, _<_}
 use native.Mathlib.Omega.{arith}
 use native.Mathlib.Nat.{mod-eq-of-lt}
-use mathlib.Core.List.{List, [], _∷_, _++_, append-assoc}
+use mathlib.Core.List.{List, [], _∷_, _++_, map, append-assoc}
 use lib.ListN.{length, take, drop, length-append, length-drop}
 use lib.Seq.{take-at, drop-at, drop-drop, drop-append-seam}
 use borrow.Author.Tests.{le-ltb, lt-ltb}
 use Rattle.words.specs.Words.{le, bytes}
 use Rattle.words.proofs.Cases.{by-order}
 use Rattle.words.proofs.Le.{le-bytes, length-bytes}
-use Rattle.refusal.specs.Outcome.{Outcome, ok, err, then}
+use Rattle.refusal.specs.Outcome.{Outcome, ok, err, then, manyAt}
 use Rattle.encoding.specs.Wire.{inside, sliceAt, bytesAt, fixedAt, compactAt, canonical, compact, compactSize, most, compactMost, boundedAt, varbytesAt, varbytes}
+use Rattle.encoding.specs.Joined.{joined}
 use Rattle.encoding.proofs.Compact.{form1, form3, form5, form9, length-compact, compact-size-most}
 use Rattle.encoding.proofs.Slice as slice
 
@@ -91,3 +92,23 @@ module _ (s : List ℕ) where
       let long = stands-long s (at + compactSize n) bs rest (two .1) in
       let e = most-back maximum n at (bs ++ rest) h (omega arith) (omega arith) (two .0) in
       rw (e, le-ltb (length s) (at + compactSize n) (omega arith), le-ltb maximum n h) (slice-back n (at + compactSize n) bs rest refl (omega arith) (two .1))
+
+-- things of one kind that are read back one after the other, each as what it means: where the things from a place on
+-- fit there, the first is read back, and the others fit after it
+pub record EachBack {A B : Type 0} (s : List ℕ) (read : ℕ → Outcome A) (bytes : B → List ℕ) (mean : A → B) (Fits : ℕ → List B → Type 0) : Type 0 where
+  pub first : (at : ℕ) (x : B) (xs : List B) (rest : List ℕ) → Fits at (x ∷ xs) → Stands s at (bytes x) rest → (a : A) × (read at ≡ ok a (at + length (bytes x))) × (mean a ≡ x)
+  pub others : (at : ℕ) (x : B) (xs : List B) → Fits at (x ∷ xs) → Fits (at + length (bytes x)) xs
+
+-- things that were written without gaps are read back, all of them
+pub many-back : {A B : Type 0} {s : List ℕ} {read : ℕ → Outcome A} {bytes : B → List ℕ} {mean : A → B} {Fits : ℕ → List B → Type 0}
+    → EachBack s read bytes mean Fits → (at : ℕ) (xs : List B) (rest : List ℕ) → Fits at xs → Stands s at (joined bytes xs) rest
+    → (ys : List A) × (manyAt read (length xs) at ≡ ok ys (at + length (joined bytes xs))) × (map mean ys ≡ xs)
+unfolding joined manyAt
+many-back each at [] rest fits h = ([], ap (ok []) (omega arith), refl)
+many-back {s = s} {bytes = bytes} each at (x ∷ xs) rest fits h =
+    let n : ℕ = length (bytes x) in
+    let two = stands-both s at (bytes x) (joined bytes xs) rest n refl h in
+    let one = each .first at x xs (joined bytes xs ++ rest) fits (two .0) in
+    let ih = many-back each (at + n) xs rest (each .others at x xs fits) (two .1) in
+    let end : at + n + length (joined bytes xs) ≡ at + length (bytes x ++ joined bytes xs) = omega (arith, length-append (bytes x) (joined bytes xs)) in
+    (one .0 ∷ ih .0, rw (one .1, ih .1) (ap (ok (one .0 ∷ ih .0)) end), ap₂ (λ y ys. y ∷ ys) (one .2) (ih .2))

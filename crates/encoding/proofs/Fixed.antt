@@ -16,7 +16,7 @@ use Rattle.words.proofs.Over.{laid-all}
 use Rattle.refusal.specs.Outcome.{Stand, Outcome, ok, err, then}
 use Rattle.refusal.proofs.Outcomes.{then-ok, passed, never}
 use Rattle.encoding.specs.Wire.{sliceAt, bytesAt, fixedAt, canonical, compactAt, most, compactMost}
-use Rattle.encoding.specs.Paper.{movedPaper, arrayPaper, shown}
+use Rattle.encoding.specs.Paper.{movedPaper, arrayPaper, shownBytes}
 use Rattle.encoding.specs.declared.read.Moved.{Moved}
 use Rattle.encoding.specs.declared.read.ReadArray.{ReadArray}
 use Rattle.encoding.proofs.Slice as slice
@@ -94,7 +94,7 @@ most-moves maximum s at {v} {p} big e =
 
 -- n bytes that were read, laid over all of an array
 pub array-read : (n : ℕ) (s : List ℕ) (at : ℕ) (d : List ℕ) {start len next : ℕ} {bs : List ℕ} → length s < 2 ^ 64 → sliceAt n s at ≡ ok (start, len) next → length d ≡ n
-    → bs ≡ laid 0 (take (start + len - start) (drop start s)) d → (ok tt next, bs) ≡ shown n (bytesAt n s at)
+    → bs ≡ laid 0 (take (start + len - start) (drop start s)) d → (ok tt next, bs) ≡ shownBytes n (bytesAt n s at)
 unfolding bytesAt
 array-read n s at d {start} {len} {next} {bs} big e long f =
     let part = slice.read n s at big e in
@@ -106,7 +106,7 @@ array-read n s at d {start} {len} {next} {bs} big e long f =
     rw e (ap (λ (l : List ℕ). (ok tt next, l)) (f ∙ rw k (laid-all (take n (drop start s)) d whole)))
 
 -- what an answer with an array tells of the bytes that were read
-pub array-found : (n : ℕ) (r : ReadArray) (o : Outcome (List ℕ)) {m : Moved} {next : ℕ} → arrayPaper r ≡ shown n o → r .moved ≡ m → movedPaper m ≡ ok tt next → o ≡ ok (r .bytes) next
+pub array-found : (n : ℕ) (r : ReadArray) (o : Outcome (List ℕ)) {m : Moved} {next : ℕ} → arrayPaper r ≡ shownBytes n o → r .moved ≡ m → movedPaper m ≡ ok tt next → o ≡ ok (r .bytes) next
 array-found n r (ok bs p) {m} {next} e f g =
     let h : movedPaper (r .moved) ≡ ok tt p = ap (λ (t : Outcome Unit × List ℕ). t .0) e in
     let b : r .bytes ≡ bs = ap (λ (t : Outcome Unit × List ℕ). t .1) e in
@@ -115,7 +115,7 @@ array-found n r (ok bs p) {m} {next} e f g =
     ap₂ ok (sym b) q
 array-found n r (err k vs p) e f g = absurd (never (ap movedPaper f ∙ g) (ap (λ (t : Outcome Unit × List ℕ). t .0) e))
 
-pub array-refused : (n : ℕ) (r : ReadArray) (o : Outcome (List ℕ)) {m : Moved} {k : ℕ} {vs : List ℕ} {p : Stand} → arrayPaper r ≡ shown n o → r .moved ≡ m → movedPaper m ≡ err k vs p → o ≡ err k vs p
+pub array-refused : (n : ℕ) (r : ReadArray) (o : Outcome (List ℕ)) {m : Moved} {k : ℕ} {vs : List ℕ} {p : Stand} → arrayPaper r ≡ shownBytes n o → r .moved ≡ m → movedPaper m ≡ err k vs p → o ≡ err k vs p
 array-refused n r (ok bs q) e f g = absurd (never (ap (λ (t : Outcome Unit × List ℕ). t .0) e) (ap movedPaper f ∙ g))
 array-refused n r (err k′ vs′ q) {m} {k} {vs} {p} e f g =
     let h = sym (ap (λ (t : Outcome Unit × List ℕ). t .0) e) ∙ ap movedPaper f ∙ g in

@@ -1,8 +1,8 @@
 -- What was read stands there as it would be written: a part, a number, a compact size.
 use mathlib.Core.Path.{_≡_, refl, ap, sym, _∙_}
-use Prim.Native.Nat.{ℕ, _+_, _^_, _≤_, _<_}
+use Prim.Native.Nat.{ℕ, zero, suc, _+_, _^_, _≤_, _<_}
 use native.Mathlib.Omega.{arith}
-use mathlib.Core.List.{List, [], _∷_, _++_, append-assoc}
+use mathlib.Core.List.{List, [], _∷_, _++_, map, append-assoc}
 use mathlib.Core.Bool.{Bool, true, false}
 use lib.ListN.{length, take, drop, take-append-drop, length-take, length-drop}
 use lib.Seq.{drop-drop}
@@ -11,9 +11,11 @@ use borrow.Author.Tests.{ltb-true, ltb-false, eqb-true, eqb-false}
 use Rattle.words.specs.Words.{le, bytes, Bytes}
 use Rattle.words.specs.Buffers.{pick}
 use Rattle.words.proofs.Le.{bytes-le, part-bytes}
-use Rattle.refusal.specs.Outcome.{Outcome, ok, err, then}
+use Rattle.refusal.specs.Outcome.{Outcome, ok, err, then, manyAt}
 use Rattle.refusal.proofs.Outcomes.{then-ok, passed}
+use Rattle.refusal.proofs.Many.{many-next}
 use Rattle.encoding.specs.Wire.{sliceAt, bytesAt, fixedAt, compactAt, canonical, compact, most, compactMost}
+use Rattle.encoding.specs.Joined.{joined}
 use Rattle.encoding.proofs.Compact.{form1, form3, form5, form9}
 use Rattle.encoding.proofs.Fixed.{bytes-read, fixed-under, fixed-moves}
 use Rattle.encoding.proofs.Slice as slice
@@ -27,6 +29,20 @@ join {s} {at} {p} {q} {xs} {ys} e f = record { there = e .there ∙ ap (λ zs. x
 
 pub found-part : (s : List ℕ) (at n : ℕ) {p : ℕ} → p ≡ at + n → Found s at (take n (drop at s)) p
 found-part s at n e = record { there = sym (take-append-drop n (drop at s)) ∙ ap (λ zs. take n (drop at s) ++ zs) (drop-drop n at s ∙ ap (λ m. drop m s) (sym e)) }
+
+-- where each thing of one kind that is read stands there as it would be written, several of them stand there without
+-- gaps
+module _ {A B : Type 0} (s : List ℕ) (read : ℕ → Outcome A) (bytes : B → List ℕ) (mean : A → B)
+    (each : (at : ℕ) (a : A) (next : ℕ) → read at ≡ ok a next → Found s at (bytes (mean a)) next) where
+  pub many-found : (n at : ℕ) {xs : List A} {end : ℕ} → manyAt read n at ≡ ok xs end → Found s at (joined bytes (map mean xs)) end
+  unfolding joined manyAt
+  many-found zero at {xs} {end} e =
+      let none : [] ≡ xs = cc in
+      let here : at ≡ end = cc in
+      rw (← none, ← here) (record { there = refl })
+  many-found (suc n) at {xs} {end} e =
+      let w = many-next read {n = n} {n′ = suc n} refl e in
+      rw (w .split) (join (each at (w .first) (w .next) (w .here)) (many-found n (w .next) (w .rest)))
 
 module _ (s : List ℕ) (small : Bytes s) (big : length s < 2 ^ 64) where
   pub found-slice : (n at : ℕ) {part : ℕ × ℕ} {p : ℕ} → sliceAt n s at ≡ ok part p → Found s at (take n (drop (part .0) s)) p

@@ -1,12 +1,15 @@
 -- Two results that meet a contract coincide, for each public function.
-use mathlib.Core.Path.{_≡_}
+use mathlib.Core.Path.{_≡_, ap₂}
 use Prim.Native.Nat.{ℕ}
 use mathlib.Core.List.{List}
 use Rattle.words.specs.Words.{bytes}
 use Rattle.words.specs.Buffers.{laid}
 use Rattle.words.proofs.One.{one, one-each}
+use Rattle.refusal.specs.Paper.{standing}
+use Rattle.refusal.specs.declared.Refusal.{Refusal}
+use Rattle.refusal.specs.declared.Stop.{Stop}
 use Rattle.encoding.specs.Wire.{remainingAt, sliceAt, bytesAt, fixedAt, compactAt, compactMost, boundedAt, varbytesAt, finishAt, compact, compactSize, varbytes, putAnswer}
-use Rattle.encoding.specs.Paper.{spanPaper, u8Paper, u16Paper, u32Paper, u64Paper, sizePaper, movedPaper, arrayPaper, shown, putPaper}
+use Rattle.encoding.specs.Paper.{spanPaper, u8Paper, u16Paper, u32Paper, u64Paper, sizePaper, movedPaper, arrayPaper, shownBytes, putPaper}
 use Rattle.encoding.proofs.Same.{span-same, u8-same, u16-same, u32-same, u64-same, size-same, moved-same, array-same, put-same}
 use Rattle.encoding.specs.declared.read.ReadSpan.{ReadSpan}
 use Rattle.encoding.specs.declared.read.ReadU8.{ReadU8}
@@ -17,6 +20,10 @@ use Rattle.encoding.specs.declared.read.ReadSize.{ReadSize}
 use Rattle.encoding.specs.declared.read.Moved.{Moved}
 use Rattle.encoding.specs.declared.read.ReadArray.{ReadArray}
 use Rattle.encoding.specs.declared.put.Put.{Put}
+
+pub cut-one : (at needed : ℕ) {r r′ : Stop} → (r .refusal ≡ Refusal.UnexpectedEnd at needed) × (standing r ≡ at)
+    → (r′ .refusal ≡ Refusal.UnexpectedEnd at needed) × (standing r′ ≡ at) → r ≡ r′
+cut-one at needed e f = let w = one-each e f in ap₂ (λ x p. record { refusal = x; position = p }) (w .0) (w .1)
 
 module _ (s : List ℕ) (at : ℕ) where
   pub remaining-one : {r r′ : ℕ} → r ≡ remainingAt s at → r′ ≡ remainingAt s at → r ≡ r′
@@ -49,7 +56,7 @@ module _ (s : List ℕ) (at : ℕ) where
   pub read-varbytes-one : (maximum : ℕ) {r r′ : ReadSpan} → spanPaper r ≡ varbytesAt maximum s at → spanPaper r′ ≡ varbytesAt maximum s at → r ≡ r′
   read-varbytes-one maximum e f = span-same (one e f)
 
-  pub read-array-one : {r r′ : ReadArray} → arrayPaper r ≡ shown 32 (bytesAt 32 s at) → arrayPaper r′ ≡ shown 32 (bytesAt 32 s at) → r ≡ r′
+  pub read-array-one : {r r′ : ReadArray} → arrayPaper r ≡ shownBytes 32 (bytesAt 32 s at) → arrayPaper r′ ≡ shownBytes 32 (bytesAt 32 s at) → r ≡ r′
   read-array-one e f = array-same (one e f)
 
   pub finish-one : {r r′ : Moved} → movedPaper r ≡ finishAt s at → movedPaper r′ ≡ finishAt s at → r ≡ r′

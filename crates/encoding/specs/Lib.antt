@@ -1,3 +1,4 @@
 pub mod Wire
+pub mod Joined
 pub mod Paper
 pub mod Theorems

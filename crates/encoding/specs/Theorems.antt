@@ -29,7 +29,7 @@ CompactReadsBack =
     (v : ℕ) (before rest : List ℕ) → v < 2 ^ 64 → Lent (before ++ (compact v ++ rest))
     → (compactAt (before ++ (compact v ++ rest)) (length before) ≡ ok v (length before + compactSize v)) × (drop (length before + compactSize v) (before ++ (compact v ++ rest)) ≡ rest)
 
--- so do bytes behind their length: their place is found, they stand there, and the others are what is left
+-- so do bytes after their length: their place is found, they stand there, and the others are what is left
 abbrev pub VarbytesReadBack : Type 0
 VarbytesReadBack =
     (maximum : ℕ) (bs before rest : List ℕ) → length bs ≤ maximum → Lent (before ++ (varbytes bs ++ rest))

@@ -17,8 +17,8 @@ remainingAt s at = length s - at
 unfoldable pub inside : {A : Type 0} → List ℕ → ℕ → Outcome A → Outcome A
 inside s at next = pick (ltb (length s) at) (err 1 (at ∷ (at - length s) ∷ []) at) next
 
--- where the next n bytes stand. "A slice read whose end would pass 2^64 - 1 gives 2 with actual 2^64 - 1 and the remaining length as maximum";
--- one that is cut off gives 1, and "stays at its start"
+-- where the next n bytes stand. "A slice read whose end would pass 2^64 - 1 gives 2 with actual 2^64 - 1 and the
+-- remaining length as maximum"; one that is cut off gives 1, and "stays at its start"
 unfoldable pub sliceAt : ℕ → List ℕ → ℕ → Outcome (ℕ × ℕ)
 unfolding inside remainingAt
 sliceAt n s at =
@@ -36,7 +36,8 @@ unfoldable pub fixedAt : ℕ → List ℕ → ℕ → Outcome ℕ
 unfolding bytesAt
 fixedAt n s at = then (bytesAt n s at) (λ bs next. ok (le bs) next)
 
--- "A longer form than needed is refused by 4", with the width of the form, and "a noncanonical compact size has been passed"
+-- "A longer form than needed is refused by 4", with the width of the form, and "a noncanonical compact size has been
+-- passed"
 unfoldable pub canonical : ℕ → ℕ → ℕ → ℕ → Outcome ℕ
 canonical width least v next = pick (ltb v least) (err 4 (width ∷ []) next) (ok v next)
 
@@ -87,13 +88,14 @@ compact v =
 unfoldable pub compactSize : ℕ → ℕ
 compactSize v = pick (ltb v 253) 1 (pick (ltb v 65536) 3 (pick (ltb v 4294967296) 5 9))
 
--- bytes behind their length
+-- bytes after their length
 unfoldable pub varbytes : List ℕ → List ℕ
 unfolding compact
 varbytes bs = compact (length bs) ++ bs
 
--- the answer to writing bs from at on: "29 is given exactly when all earlier checks pass and the destination is shorter than n". It carries how many
--- bytes were to be written. The destination's content is `laid at bs`, which touches nothing where there is no room
+-- the answer to writing bs from at on: "29 is given exactly when all earlier checks pass and the destination is shorter
+-- than n". It carries how many bytes were to be written. The destination's content is `laid at bs`, which touches
+-- nothing where there is no room
 unfoldable pub putAnswer : ℕ → List ℕ → List ℕ → Wrote
 unfolding fits
 putAnswer at bs d = pick (fits at bs d) (wrote (length bs)) (refused 29 (length bs ∷ []))

@@ -115,7 +115,7 @@ pub fn put_compact_size(d: &mut [u8], at: usize, value: u64) -> Put
     Put::Refused(Refusal::NoRoom { needed: n })
 }
 
-// Bytes behind their length.
+// Bytes after their length.
 pub fn put_varbytes(d: &mut [u8], at: usize, value: &[u8]) -> Put
     ensures { λ r. ⌜ (putPaper r ≡ putAnswer at (varbytes (now (value .entry))) (now (d .entry))) × (now (d .exit) ≡ laid at (varbytes (now (value .entry))) (now (d .entry))) ⌝ }
 {

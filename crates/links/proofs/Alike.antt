@@ -1,4 +1,5 @@
--- Two outpoints compared where they stand, eight bytes at a time: the hash by four words, and the index by the word that ends with it.
+-- Two outpoints compared where they stand, eight bytes at a time: the hash by four words, and the index by the word
+-- that ends with it.
 use mathlib.Core.Path.{_≡_, refl, ap, ap₂, sym, _∙_}
 use Prim.Native.Nat.{ℕ, _+_, _%_, _^_, _≤_, _<_}
 use native.Mathlib.Omega.{arith}
@@ -8,14 +9,14 @@ use lib.ListN.{length, take, drop}
 use lib.Seq.{take-add, drop-drop}
 use lib.Dec.{eqb}
 use borrow.Author.Tests.{eqb-true, eqb-false}
-use Rattle.words.specs.Words.{le, Bytes}
+use Rattle.words.specs.Words.{le, be, Bytes}
+use Rattle.words.proofs.Be.{spell-one}
 use Rattle.words.proofs.Le.{part-bytes, part-long, part-of-part, word-one}
 use Rattle.encoding.proofs.Slice as slice
 use Rattle.primitives.specs.declared.Outpoint.{Outpoint}
 use Rattle.primitives.specs.Outpoints.{outpoint, sameOutpoint, shownOutpoint}
 use Rattle.primitives.proofs.Theorems.{same-is-equal}
-use Rattle.sheets.specs.Sheet.{be, inputAt}
-use Rattle.sheets.proofs.Spelling.{spell-one}
+use Rattle.sheets.specs.Sheet.{inputAt}
 
 -- the hashes that stand at a and at b agree in their first j bytes, which are whole words
 pub record Alike (s t : List ℕ) (a b j : ℕ) : Type 0 where

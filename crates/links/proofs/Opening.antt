@@ -15,7 +15,7 @@ use Rattle.sheets.specs.declared.Place.{Place}
 use Rattle.sheets.proofs.Whole.{transaction-is, coins-are, pair-whole, pair-refused}
 use Rattle.sheets.proofs.Counts.{transaction-small, coins-small, inputs-end, outputs-end, outputs-at, transaction-not, coins-not, transaction-holds, coins-hold}
 use Rattle.links.specs.Rules.{Verdict, broken, rule, linksFrom, coinbase, linksOf}
-use Rattle.links.specs.Verify.{plain, answerOf, stopped, verifyOf}
+use Rattle.links.specs.Verify.{withoutOutpoints, answerOf, stopped, verifyOf}
 use Rattle.links.specs.Workers.{inputsIn, outputsIn, coinsIn, Sheets}
 use Rattle.links.proofs.Walking.{outpoint-is}
 
@@ -39,16 +39,16 @@ held tx coins {inputs} {outputs} e =
     }
 
 module _ (tx coins : List ℕ) where
-  transaction-refused : {k : ℕ} {vs : List ℕ} {d : ℕ} → transactionCounts tx ≡ refused k vs d → plain (stopped k vs d) ≡ verifyOf tx coins
+  transaction-refused : {k : ℕ} {vs : List ℕ} {d : ℕ} → transactionCounts tx ≡ refused k vs d → withoutOutpoints (stopped k vs d) ≡ verifyOf tx coins
   unfolding verifyOf pairOf
   transaction-refused e = rw (transaction-not tx e)
 
-  coins-refused : {counts : ℕ × ℕ} {k : ℕ} {vs : List ℕ} {d : ℕ} → transactionCounts tx ≡ whole counts → coinCounts coins ≡ refused k vs d → plain (stopped k vs d) ≡ verifyOf tx coins
+  coins-refused : {counts : ℕ × ℕ} {k : ℕ} {vs : List ℕ} {d : ℕ} → transactionCounts tx ≡ whole counts → coinCounts coins ≡ refused k vs d → withoutOutpoints (stopped k vs d) ≡ verifyOf tx coins
   unfolding verifyOf pairOf
   coins-refused e f = rw (transaction-holds tx (transaction-is tx e), coins-not coins f)
 
   -- either sheet is refused
-  pub pair-not : {k : ℕ} {vs : List ℕ} {d : ℕ} → pairCounts tx coins ≡ refused k vs d → plain (stopped k vs d) ≡ verifyOf tx coins
+  pub pair-not : {k : ℕ} {vs : List ℕ} {d : ℕ} → pairCounts tx coins ≡ refused k vs d → withoutOutpoints (stopped k vs d) ≡ verifyOf tx coins
   pair-not e = pair-refused tx coins e transaction-refused (λ counts. coins-refused)
 
   pub verify-is : {inputs outputs n z : ℕ} → pairCounts tx coins ≡ whole ((inputs, outputs), (n, z))

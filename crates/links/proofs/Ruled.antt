@@ -3,16 +3,16 @@ use mathlib.Core.Path.{_≡_, refl, ap, _∙_}
 use Prim.Native.Nat.{ℕ, suc, _+_}
 use mathlib.Core.Bool.{Bool}
 use mathlib.Core.List.{List, [], _∷_}
+use mathlib.Core.Option.{Option}
 use Rattle.words.specs.Buffers.{pick}
 use Rattle.primitives.specs.declared.Outpoint.{Outpoint}
 use Rattle.primitives.specs.Outpoints.{sameOutpoint}
 use Rattle.covenants.specs.Kind.{isName}
-use Rattle.covenants.specs.Items.{Maybe}
 use Rattle.sheets.specs.Sheet.{Output, Coin}
 use Rattle.checks.specs.Checks.{Step, passes, breaks}
 use Rattle.links.specs.Rules.{Rule, one, onward, partnerIn, others, Verdict, differs, linksFrom}
 
-module _ (f g : Rule) (alike : (i : ℕ) (spent : Output) (partner : Maybe Output) → f i spent partner ≡ g i spent partner) where
+module _ (f g : Rule) (alike : (i : ℕ) (spent : Output) (partner : Option Output) → f i spent partner ≡ g i spent partner) where
   pub links-alike : (i outs names : ℕ) (xs : List Outpoint) (cs : List Coin) (os : List Output) → linksFrom f i outs names xs cs os ≡ linksFrom g i outs names xs cs os
   unfolding linksFrom
   links-alike i outs names [] cs os = refl

@@ -13,7 +13,7 @@ use Rattle.refusal.specs.Paper.{numberOf, carried}
 use Rattle.covenants.specs.Covenant.{bytesIn}
 use Rattle.covenants.specs.Kind.{isName}
 use Rattle.sheets.specs.Sheet.{outputOf, itemsFrom}
-use Rattle.checks.specs.Checks.{Step, after}
+use Rattle.checks.specs.Checks.{Step, andThen}
 use Rattle.checks.specs.Items.{itemsPair}
 use Rattle.checks.specs.declared.Pair.{Pair}
 use Rattle.checks.proofs.Comparing.{left-end, item-malformed, items-fit, items-unequal, items-equal}
@@ -23,7 +23,7 @@ use Rattle.links.specs.declared.rows.Turn.{Turn}
 
 module _ (tx coins : List ℕ) (i : ℕ) (t : Turn) (k : ℕ) {whole : Turned} (r : Turning tx coins i t k whole) where
   abbrev Ends : Step → Turned
-  Ends names = turned (after names (afterwards (t .rest) i (outputOf coins (t .spent)) (outputOf tx (t .made)))) (isName (t .spent .kind)) (t .«next_coin») (t .«next_output»)
+  Ends names = turned (andThen names (afterwards (t .rest) i (outputOf coins (t .spent)) (outputOf tx (t .made)))) (isName (t .spent .kind)) (t .«next_coin») (t .«next_output»)
 
   -- no item is left
   pub finished : {step : Step} → 2 ≤ k → step ≡ afterwards (t .rest) i (outputOf coins (t .spent)) (outputOf tx (t .made))

@@ -59,7 +59,7 @@ module _ (coins : List ℕ) (i outs names : ℕ) (x : Outpoint) (xs : List Outpo
   unfolding linksFrom
   turn-passed e g = rw (e, g)
 
--- the partner is the first of the outputs that are left, and behind it stand the others
+-- the partner is the first of the outputs that are left, and after it stand the others
 record Paired (tx : List ℕ) (left at : ℕ) (ps : List Place) : Type 0 where
   rest : List Place
   end : ℕ

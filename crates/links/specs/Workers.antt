@@ -4,14 +4,12 @@ use mathlib.Core.Path.{_≡_}
 use Prim.Native.Nat.{ℕ, zero, suc, _+_, _*_, _≤_, _<_, _^_}
 use mathlib.Core.List.{List, [], _∷_, map}
 use mathlib.Core.Bool.{true, false, Bool}
-use lib.Dec.{eqb}
-use Rattle.words.specs.Buffers.{pick}
+use mathlib.Core.Option.{none}
 use Rattle.refusal.specs.Paper.{numberOf, carried}
-use Rattle.covenants.specs.Kind.{None, Claim, Open, Bid, Reveal, Redeem, Register, Update, Renew, Transfer, Finalize, Revoke, isName}
-use Rattle.covenants.specs.Items.{Maybe, absent}
+use Rattle.covenants.specs.Kind.{isName}
 use Rattle.sheets.specs.declared.Place.{Place}
 use Rattle.sheets.specs.Sheet.{Output, outputOf, Coin, itemsFrom, coinOf, inputAt, placeAt, gap, coinAt}
-use Rattle.checks.specs.Checks.{Step, passes, breaks, after, check, sameAddress, nameAndStart, destined}
+use Rattle.checks.specs.Checks.{Step, passes, breaks, andThen, check, sameAddress, nameAndStart, destined}
 use lib.ListN.{length}
 use Rattle.refusal.specs.Outcome.{Outcome, ok, err, manyAt, listOf}
 use Rattle.primitives.specs.declared.Outpoint.{Outpoint}
@@ -19,7 +17,7 @@ use Rattle.checks.specs.Paper.{partnerOf}
 use Rattle.checks.specs.Items.{itemsAt}
 use Rattle.checks.specs.Workers.{Left}
 use Rattle.checks.specs.declared.Partner.{Partner}
-use Rattle.links.specs.Rules.{oneOf, committed, bidRule, revealRule, ownedRule, transferRule, freeRule, unknownRule, paired, rule}
+use Rattle.links.specs.Rules.{committed, rowRule, rule}
 use Rattle.links.specs.declared.rows.Rest.{Rest}
 use Rattle.links.specs.declared.rows.Gate.{Gate}
 use Rattle.links.specs.declared.rows.TableRow.{TableRow}
@@ -38,7 +36,7 @@ afterwards Rest.Commitment i spent made = committed i spent made
 afterwards Rest.Destination i spent made = destined i spent made
 
 abbrev pub namedThen : Rest → ℕ → Output → Output → Step
-namedThen rest i spent made = after (nameAndStart i (spent .items) (made .items)) (afterwards rest i spent made)
+namedThen rest i spent made = andThen (nameAndStart i (spent .items) (made .items)) (afterwards rest i spent made)
 
 abbrev pub gated : Gate → ℕ → Output → Output → Step
 gated (Gate.Breaks r) i spent made = breaks (numberOf r) (carried r)
@@ -49,29 +47,9 @@ gated (Gate.Names rest) i spent made = namedThen rest i spent made
 abbrev pub Gates : (ℕ → Output → Output → Step) → ℕ → Place → Place → Gate → Type 0
 Gates row i spent made gate = (coins tx : List ℕ) → gated gate i (outputOf coins spent) (outputOf tx made) ≡ row i (outputOf coins spent) (outputOf tx made)
 
--- the row of a spent kind
-abbrev pub rowOf : ℕ → TableRow
-rowOf kind =
-    pick (oneOf kind (None ∷ Open ∷ Redeem ∷ [])) TableRow.Free
-    (pick (eqb kind Bid) TableRow.Bid
-    (pick (oneOf kind (Claim ∷ Reveal ∷ [])) TableRow.Reveal
-    (pick (oneOf kind (Register ∷ Update ∷ Renew ∷ Finalize ∷ [])) TableRow.Owned
-    (pick (eqb kind Transfer) TableRow.Transfer
-    (pick (eqb kind Revoke) TableRow.Revoke TableRow.Unknown)))))
-
--- what a row says
-abbrev pub rowRule : TableRow → ℕ → Output → Maybe Output → Step
-rowRule TableRow.Free i spent partner = freeRule i spent partner
-rowRule TableRow.Bid i spent partner = paired i spent partner (bidRule i spent)
-rowRule TableRow.Reveal i spent partner = paired i spent partner (revealRule i spent)
-rowRule TableRow.Owned i spent partner = paired i spent partner (ownedRule i spent)
-rowRule TableRow.Transfer i spent partner = paired i spent partner (transferRule i spent)
-rowRule TableRow.Revoke i spent partner = breaks 24 (i ∷ [])
-rowRule TableRow.Unknown i spent partner = unknownRule i partner
-
 -- what a row says of any output of a kind that has no partner
 abbrev pub Alone : ℕ → ℕ → TableRow → Step → Type 0
-Alone i kind row step = (spent : Output) → spent .kind ≡ kind → step ≡ rowRule row i spent absent
+Alone i kind row step = (spent : Output) → spent .kind ≡ kind → step ≡ rowRule row i spent none
 
 -- ---- what two sheets hold, by counts and positions
 
@@ -84,7 +62,7 @@ outputsIn tx left at = map (outputOf tx) (listOf (manyAt (placeAt 0 tx) left at)
 abbrev pub coinsIn : List ℕ → ℕ → List Coin
 coinsIn coins n = map (coinOf coins) (listOf (manyAt (coinAt 1 coins) n 4))
 
--- so many inputs stand behind the head, so many outputs at a position
+-- so many inputs stand after the head, so many outputs at a position
 abbrev pub Inputs : List ℕ → ℕ → Type 0
 Inputs tx n = (xs : List Outpoint) × (end : ℕ) × (manyAt (inputAt tx) n 4 ≡ ok xs end)
 
@@ -114,7 +92,8 @@ unfoldable pub partnerAt : ℕ → List ℕ → ℕ → Beside
 partnerAt zero tx at = record { partner = Partner.Missing; next = at }
 partnerAt (suc left) tx at = madeAt at (placeAt 0 tx at)
 
--- it passes: whether it links an output and spends a name, and where the next coin and the next output stand; or it breaks a rule
+-- it passes: whether it links an output and spends a name, and where the next coin and the next output stand; or it
+-- breaks a rule
 pub data Turned : Type 0 where
   moves : Bool → Bool → ℕ → ℕ → Turned
   stops : ℕ → List ℕ → Turned
@@ -135,7 +114,7 @@ turnAt tx coins i coin output left = spending tx coins i (partnerAt left tx outp
 pub record Turning (tx coins : List ℕ) (i : ℕ) (t : Turn) (k : ℕ) (whole : Turned) : Type 0 where
   pub bound : k ≤ 2
   pub found : k < 2 → (t .«spent_items» ≡ itemsAt coins (t .spent .covenant)) × (t .«made_items» ≡ itemsAt tx (t .made .covenant))
-  pub rests : turned (after (Left i (itemsFrom coins (t .spent .covenant)) (itemsFrom tx (t .made .covenant)) k) (afterwards (t .rest) i (outputOf coins (t .spent)) (outputOf tx (t .made))))
+  pub rests : turned (andThen (Left i (itemsFrom coins (t .spent .covenant)) (itemsFrom tx (t .made .covenant)) k) (afterwards (t .rest) i (outputOf coins (t .spent)) (outputOf tx (t .made))))
       (isName (t .spent .kind)) (t .«next_coin») (t .«next_output») ≡ whole
 
 abbrev pub Ahead : List ℕ → List ℕ → ℕ → Turned → Onward → Type 0
@@ -151,4 +130,4 @@ NamedTurn tx coins spent made rest coin output t =
     (i : ℕ) → Turning tx coins i t (t .first) (turned (namedThen rest i (outputOf coins spent) (outputOf tx made)) (isName (spent .kind)) coin output)
 
 abbrev pub LoneTurn : ℕ → Place → ℕ → ℕ → Onward → Type 0
-LoneTurn i spent coin output r = (tx coins : List ℕ) → Ahead tx coins i (turned (rule i (outputOf coins spent) absent) (isName (spent .kind)) coin output) r
+LoneTurn i spent coin output r = (tx coins : List ℕ) → Ahead tx coins i (turned (rule i (outputOf coins spent) none) (isName (spent .kind)) coin output) r

@@ -68,13 +68,13 @@ fn judged_links(tx: &[u8], coins: &[u8], inputs: usize, outputs: usize, n: usize
 pub fn verify_covenant_links(tx: &[u8], coins: &[u8]) -> Verified
     ensures { λ r. ⌜ verifiedPaper r ≡ verifyOf (now (tx .entry)) (now (coins .entry)) ⌝ }
 {
-    match judge_pair(&tx[..], &coins[..]) {
+    match judge_pair(tx, coins) {
         PairRead::Counts {
             inputs,
             outputs,
             coins: n,
         } => {
-            return judged_links(&tx[..], &coins[..], inputs, outputs, n);
+            return judged_links(tx, coins, inputs, outputs, n);
         }
         PairRead::Refused { refusal, side } => {
             return refused(refusal, side);

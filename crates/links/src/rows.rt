@@ -1,5 +1,5 @@
-// One input against the rules, what is spent and its partner: what comes before "name and start", and what comes after. The two items themselves are
-// compared in the walk.
+// One input against the rules, what is spent and its partner: what comes before "name and start", and what comes after.
+// The two items themselves are compared in the walk.
 use checks::Items;
 use checks::Partner;
 use checks::Step;
@@ -13,16 +13,17 @@ use sheets::Place;
 ghost use mathlib.Core.Path.{_≡_};
 ghost use mathlib.Core.List.{[], _∷_};
 ghost use mathlib.Core.Bool.{true, false};
-ghost use Rattle.covenants.specs.Items.{there};
+ghost use mathlib.Core.Option.{some};
 ghost use Rattle.covenants.specs.Kind.{None, Open, Bid, Update, Renew, Transfer, Revoke, isName};
 ghost use Rattle.sheets.specs.Sheet.{addressAt, outputOf};
 ghost use Rattle.checks.specs.Checks.{breaks, check, sameAddress};
 ghost use Rattle.checks.specs.Paper.{stepPaper, partnerOf};
-ghost use Rattle.links.specs.Rules.{oneOf, transition, committed, bidRule, revealRule, ownedRule, transferRule, freeRule, unknownRule, rule};
-ghost use Rattle.links.specs.Workers.{afterwards, gated, Gates, rowOf, rowRule, Alone};
+ghost use Rattle.links.specs.Rules.{oneOf, transition, committed, bidRule, revealRule, ownedRule, transferRule, freeRule, unknownRule, rowOf, rowRule, rule};
+ghost use Rattle.links.specs.Workers.{afterwards, gated, Gates, Alone};
 ghost use Rattle.links.specs.Workers.{turned, Ahead, FreeTurn, NamedTurn, LoneTurn};
 
-// What is left of a row after name and start: nothing, where no output is linked or where one is; the address (21); 20; the commitment; the destination.
+// What is left of a row after name and start: nothing, where no output is linked or where one is; the address (21); 20;
+// the commitment; the destination.
 pub(crate) enum Rest {
     Unlinked,
     Linked,
@@ -39,8 +40,8 @@ enum Gate {
     Names(Rest),
 }
 
-// An input that stands before name and start: both outputs, items 0 and 1 of both, the first item to be compared (2 where none is), the rest of the
-// row, and where the next coin and the next output stand.
+// An input that stands before name and start: both outputs, items 0 and 1 of both, the first item to be compared (2
+// where none is), the rest of the row, and where the next coin and the next output stand.
 pub(crate) struct Turn {
     pub spent: Place,
     pub made: Place,
@@ -166,7 +167,8 @@ fn keeps(to: u8) -> bool
     to == kind::REVOKE
 }
 
-// Transfer: "equal value (22); Update, Renew or Revoke: name and start, address (21). Finalize: name and start, .. Else 14".
+// Transfer: "equal value (22); Update, Renew or Revoke: name and start, address (21). Finalize: name and start, .. Else
+// 14".
 fn transfer_row(input: usize, spent: Place, made: Place) -> Gate
     ensures { λ r. ⌜ Gates transferRule input spent made r ⌝ }
 {
@@ -197,7 +199,7 @@ fn is_free(to: u8) -> bool
 
 // None, Open and Redeem, with a partner.
 fn free_row(input: usize, spent: Place, made: Place) -> Gate
-    ensures { λ r. ⌜ Gates (λ i a b. freeRule i a (there b)) input spent made r ⌝ }
+    ensures { λ r. ⌜ Gates (λ i a b. freeRule i a (some b)) input spent made r ⌝ }
 {
     if is_free(made.kind) {
         return Gate::Passes;
@@ -207,7 +209,7 @@ fn free_row(input: usize, spent: Place, made: Place) -> Gate
 
 // 12 to 255, with a partner.
 fn unknown_row(input: usize, spent: Place, made: Place) -> Gate
-    ensures { λ r. ⌜ Gates (λ i a b. unknownRule i (there b)) input spent made r ⌝ }
+    ensures { λ r. ⌜ Gates (λ i a b. unknownRule i (some b)) input spent made r ⌝ }
 {
     if kind::is_name(made.kind) {
         return Gate::Breaks(Refusal::UnknownCovenantCreatesName {
@@ -258,7 +260,7 @@ fn pair_row(
     made: Place,
     from: TableRow,
 ) -> Gate
-    ensures { λ r. ⌜ gated r input (outputOf (now (coins .entry)) spent) (outputOf (now (tx .entry)) made) ≡ rowRule from input (outputOf (now (coins .entry)) spent) (there (outputOf (now (tx .entry)) made)) ⌝ }
+    ensures { λ r. ⌜ gated r input (outputOf (now (coins .entry)) spent) (outputOf (now (tx .entry)) made) ≡ rowRule from input (outputOf (now (coins .entry)) spent) (some (outputOf (now (tx .entry)) made)) ⌝ }
 {
     match from {
         TableRow::Free => free_row(input, spent, made),
@@ -351,7 +353,7 @@ fn paired_turn(
     next_coin: usize,
     next_output: usize,
 ) -> Onward
-    ensures { λ r. ⌜ Ahead (now (tx .entry)) (now (coins .entry)) input (turned (rule input (outputOf (now (coins .entry)) spent) (there (outputOf (now (tx .entry)) made))) (isName (spent .kind)) «next_coin» «next_output») r ⌝ }
+    ensures { λ r. ⌜ Ahead (now (tx .entry)) (now (coins .entry)) input (turned (rule input (outputOf (now (coins .entry)) spent) (some (outputOf (now (tx .entry)) made))) (isName (spent .kind)) «next_coin» «next_output») r ⌝ }
 {
     match pair_row(tx, coins, input, spent, made, row_of(spent.kind)) {
         Gate::Breaks(refusal) => Onward::Stop(refusal),

@@ -1,4 +1,5 @@
-// The walk over two sheets that were judged: each input with its coin and its partner, in step, and then the outputs past them.
+// The walk over two sheets that were judged: each input with its coin and its partner, in step, and then the outputs
+// past them.
 use crate::CovenantLinkSummary;
 use crate::Links;
 use crate::Verified;
@@ -31,7 +32,7 @@ ghost use Rattle.primitives.specs.Outpoints.{sameOutpoint, shownOutpoint};
 ghost use Rattle.covenants.specs.Kind.{isLinked};
 ghost use Rattle.sheets.specs.Sheet.{inputAt};
 ghost use Rattle.links.specs.Rules.{one, linked, broken, differs, unpaired, rule, linksFrom};
-ghost use Rattle.links.specs.Verify.{plain, answerOf};
+ghost use Rattle.links.specs.Verify.{withoutOutpoints, answerOf};
 ghost use Rattle.links.specs.Paper.{linksPaper, verifiedPaper};
 ghost use Rattle.links.specs.Workers.{inputsIn, outputsIn, coinsIn, Outputs, Sheets, partnerAt, turnAt, Ahead};
 
@@ -43,7 +44,7 @@ struct Beside {
 
 // An answer without outpoints: zeros in their place.
 pub(crate) fn answered(links: Links) -> Verified
-    ensures { λ r. ⌜ verifiedPaper r ≡ plain (linksPaper links) ⌝ }
+    ensures { λ r. ⌜ verifiedPaper r ≡ withoutOutpoints (linksPaper links) ⌝ }
 {
     Verified {
         links,
@@ -54,7 +55,7 @@ pub(crate) fn answered(links: Links) -> Verified
 
 // A refusal on a side, without outpoints.
 pub(crate) fn refused(refusal: Refusal, side: u8) -> Verified
-    ensures { λ r. ⌜ verifiedPaper r ≡ plain (linksPaper (Links.Refused refusal side)) ⌝ }
+    ensures { λ r. ⌜ verifiedPaper r ≡ withoutOutpoints (linksPaper (Links.Refused refusal side)) ⌝ }
 {
     answered(Links::Refused { refusal, side })
 }
@@ -139,7 +140,7 @@ fn start_row(
 
 // An output past the inputs is refused.
 fn unpaired_output(output: usize, kind: u8) -> Verified
-    ensures { λ r. ⌜ verifiedPaper r ≡ plain (linksPaper (Links.Refused (Refusal.UnpairedLinkedOutput output kind) 0)) ⌝ }
+    ensures { λ r. ⌜ verifiedPaper r ≡ withoutOutpoints (linksPaper (Links.Refused (Refusal.UnpairedLinkedOutput output kind) 0)) ⌝ }
 {
     refused(Refusal::UnpairedLinkedOutput { output, kind }, 0)
 }
@@ -199,7 +200,8 @@ fn remaining(outputs: usize, i: usize) -> usize
     outputs - i
 }
 
-// Whether two outpoints are the same, compared where they stand, by words: four for the hash, and one whose last half is the index.
+// Whether two outpoints are the same, compared where they stand, by words: four for the hash, and one whose last half
+// is the index.
 fn same_outpoint(tx: &[u8], a: usize, coins: &[u8], b: usize) -> bool
     requires { ⌜ (a + 36 ≤ length (now tx)) × (b + 36 ≤ length (now coins)) ⌝ }
     ensures { λ r. ⌜ r ≡ sameOutpoint (shownOutpoint (inputAt (now (tx .entry)) a) .1) (shownOutpoint (inputAt (now (coins .entry)) b) .1) ⌝ }
@@ -221,9 +223,10 @@ fn malformed(input: usize, field: u8) -> Verified
     refused(Refusal::MalformedCovenant { input, field }, 0)
 }
 
-// The inputs in order, each fully before the next: a head has 4 bytes, an outpoint 36. Of each its outpoint, its row up to name and start, items 0 and 1
-// of both covenants (the Rust's `require_name_and_start_match`), and the rest of its row. The loops over inputs, items and their bytes stand one in the
-// other, and the first rule broken anywhere leaves them by the label: document 01 asks for this form, "Where each form belongs".
+// The inputs in order, each fully before the next: a head has 4 bytes, an outpoint 36. Of each its outpoint, its row up
+// to name and start, items 0 and 1 of both covenants (the Rust's `require_name_and_start_match`), and the rest of its
+// row. The loops over inputs, items and their bytes stand one in the other, and the first rule broken anywhere leaves
+// them by the label: document 01 asks for this form, "Where each form belongs".
 pub(crate) fn walk(tx: &[u8], coins: &[u8], n: usize, outputs: usize) -> Verified
     requires { ⌜ Sheets (now tx) (now coins) n outputs n ⌝ }
     ensures { λ r. ⌜ verifiedPaper r ≡ answerOf (linksFrom rule 0 0 0 (inputsIn (now (tx .entry)) n) (coinsIn (now (coins .entry)) n) (outputsIn (now (tx .entry)) outputs (4 + n * 36))) ⌝ }

@@ -9,11 +9,11 @@ use lib.Seq.{take-append-seam, take-all}
 use Rattle.words.specs.Sameness.{same}
 use Rattle.words.proofs.Cases.{by-order}
 use Rattle.words.proofs.Sameness.{same-long, same-append}
-use Rattle.words.specs.Buffers.{padded}
+use Rattle.words.specs.Buffers.{zeroPadded}
 use Rattle.name_state.specs.Paper.{text}
 
-pub padded-long : (bs : List ℕ) (m : ℕ) → length bs ≤ m → length (padded m bs) ≡ m
-unfolding padded
+pub padded-long : (bs : List ℕ) (m : ℕ) → length bs ≤ m → length (zeroPadded m bs) ≡ m
+unfolding zeroPadded
 padded-long bs m h = length-append bs (replicate (m - length bs) 0) ∙ simp length-replicate (omega arith)
 
 pub text-long : (n : ℕ) (bs : List ℕ) → length (text n bs) ≡ n
@@ -28,9 +28,9 @@ text-within n bs h =
     rw k (append-nil (take n bs))
 
 -- a text that fits is what is stored of it
-pub text-padded : (bs : List ℕ) (m : ℕ) → length bs ≤ m → text (length bs) (padded m bs) ≡ bs
-unfolding padded
-text-padded bs m h = text-within (length bs) (padded m bs) (omega (arith, padded-long bs m h)) ∙ take-append-seam bs (replicate (m - length bs) 0)
+pub text-padded : (bs : List ℕ) (m : ℕ) → length bs ≤ m → text (length bs) (zeroPadded m bs) ≡ bs
+unfolding zeroPadded
+text-padded bs m h = text-within (length bs) (zeroPadded m bs) (omega (arith, padded-long bs m h)) ∙ take-append-seam bs (replicate (m - length bs) 0)
 
 -- no byte past the array is taken
 pub take-min : (n : ℕ) (bs : List ℕ) → take (min n (length bs)) bs ≡ take n bs

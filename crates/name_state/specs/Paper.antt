@@ -3,7 +3,7 @@ use Prim.Native.Nat.{ℕ, _-_}
 use mathlib.Core.List.{List, [], _++_}
 use mathlib.Core.Bool.{true, false}
 use lib.ListN.{length, take, replicate}
-use Rattle.words.specs.Buffers.{pick, padded}
+use Rattle.words.specs.Buffers.{pick, zeroPadded}
 use Rattle.primitives.specs.declared.Outpoint.{Outpoint}
 use Rattle.primitives.specs.Outpoints.{outpoint, nullOutpoint, isNull}
 use Rattle.names.specs.Name.{maxNameSize}
@@ -15,7 +15,8 @@ use Rattle.name_state.specs.declared.Heights.{Heights}
 use Rattle.name_state.specs.declared.Amounts.{Amounts}
 use Rattle.name_state.specs.declared.Times.{Times}
 
--- the first n bytes of an array, "bytes past either length .. are ignored"; where n is more than the array has, zeros stand for the others
+-- the first n bytes of an array, "bytes past either length .. are ignored"; where n is more than the array has, zeros
+-- stand for the others
 unfoldable pub text : ℕ → List ℕ → List ℕ
 text n bs = take n bs ++ replicate (n - length bs) 0
 
@@ -45,9 +46,9 @@ abbrev pub stored : State → NameState
 stored t =
     record {
       «name_hash» = record { 0 = t .key };
-      name = padded maxNameSize (t .name);
+      name = zeroPadded maxNameSize (t .name);
       «name_length» = length (t .name);
-      «resource_data» = padded maxResourceSize (t .resource);
+      «resource_data» = zeroPadded maxResourceSize (t .resource);
       «resource_length» = length (t .resource);
       height = record { 0 = t .height };
       renewal = record { 0 = t .renewal };

@@ -1,4 +1,5 @@
--- Name states (document 01, module 6): what a state is, when it is null, which fields its record shows, and what binds its name to its key.
+-- Name states (document 01, module 6): what a state is, when it is null, which fields its record shows, and what binds
+-- its name to its key.
 use Prim.Native.Nat.{ℕ, _+_}
 use mathlib.Core.List.{List, []}
 use mathlib.Core.Bool.{Bool, _&&_, not, Bool·beq}
@@ -53,8 +54,8 @@ null t =
 abbrev pub bit : ℕ → Bool → ℕ
 bit w b = pick b w 0
 
--- "present fields by bit: 0 owner .., 1 value, 2 highest .., 3 transfer, 4 revoked, 5 claimed .., 6 renewals ..; 7 registered, 8 expired, 9 weak": a field is
--- present where it is not the null outpoint, not zero, or set
+-- "present fields by bit: 0 owner .., 1 value, 2 highest .., 3 transfer, 4 revoked, 5 claimed .., 6 renewals ..;
+-- 7 registered, 8 expired, 9 weak": a field is present where it is not the null outpoint, not zero, or set
 unfoldable pub bitmap : State → ℕ
 bitmap t =
     bit 1 (not (isNull (t .owner))) + bit 2 (not (eqb (t .value) 0)) + bit 4 (not (eqb (t .highest) 0))

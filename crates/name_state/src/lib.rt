@@ -22,7 +22,8 @@ ghost use Rattle.name_state.specs.Workers.{sameHeights, sameAmounts, sam
 
 pub mod comparison;
 
-// The Rust's `NameState`; of each array only the first `name_length`, `resource_length` bytes are the name and the resource.
+// The Rust's `NameState`; of each array only the first `name_length`, `resource_length` bytes are the name and the
+// resource.
 #[repr(C)]
 pub struct NameState {
     pub name_hash: NameHash,

@@ -21,7 +21,7 @@ use Rattle.primitives.specs.Outpoints.{isNull, nullOutpoint}
 use Rattle.primitives.specs.declared.Outpoint.{Outpoint}
 use Rattle.name_state.specs.State.{State, bit, bitmap, binding}
 use Rattle.name_state_codec.specs.Written.{has, given, ownerRecord, textsBytes, numbersBytes, heldBytes, timesBytes, recordWith, stateBytes}
-use Rattle.name_state_codec.specs.Read.{upTo, textAt, textsAt, numbersAt, present, ownerAt, amountAt, amountsAt, heldAt, timesAt, gathered, optionalAt, fieldsAt, standingAt, judged, readState}
+use Rattle.name_state_codec.specs.Read.{upTo, textAt, textsAt, numbersAt, present, ownerAt, amountAt, amountsAt, heldAt, timesAt, gathered, optionalAt, fieldsAt, standingAt, judgedState, readState}
 use Rattle.name_state_codec.specs.Workers.{judgedBits}
 use Rattle.name_state_codec.proofs.Inside.{up-ok, text-read}
 
@@ -177,8 +177,8 @@ module _ (key s : List ℕ) (small : Bytes s) (big : length s < 2 ^ 64) where
       go true g = ap (λ b. same (recordWith b (r .1)) s) (eqb-true (bitmap (r .1)) (r .0) g) ∙ ap (same (recordWith (r .0) (r .1))) whole ∙ same-refl (recordWith (r .0) (r .1))
       go false g = other g (same (recordWith (bitmap (r .1)) (r .1)) s) refl
 
-  judged-same : (r : ℕ × State) (p : ℕ) → fieldsAt key s 0 ≡ ok r p → judged s r p ≡ judgedBits s r p
-  unfolding judged judgedBits
+  judged-same : (r : ℕ × State) (p : ℕ) → fieldsAt key s 0 ≡ ok r p → judgedState s r p ≡ judgedBits s r p
+  unfolding judgedState judgedBits
   judged-same r p e = go (finishAt s p) refl
     where
       go : (o : Outcome Unit) → finishAt s p ≡ o
@@ -187,10 +187,10 @@ module _ (key s : List ℕ) (small : Bytes s) (big : length s < 2 ^ 64) where
       go (ok u at) f = ap (λ (y : Bool). then (standingAt at (binding (r .1))) (λ u q. pick y (ok (r .1) q) (err 8 [] q))) (canonical-is r p e (finish-end s p f .0))
       go (err k vs q) f = refl
 
-  pub then-bits : then (fieldsAt key s 0) (judged s) ≡ then (fieldsAt key s 0) (judgedBits s)
+  pub then-bits : then (fieldsAt key s 0) (judgedState s) ≡ then (fieldsAt key s 0) (judgedBits s)
   then-bits = go (fieldsAt key s 0) refl
     where
-      go : (o : Outcome (ℕ × State)) → fieldsAt key s 0 ≡ o → then o (judged s) ≡ then o (judgedBits s)
+      go : (o : Outcome (ℕ × State)) → fieldsAt key s 0 ≡ o → then o (judgedState s) ≡ then o (judgedBits s)
       go (ok r p) e = judged-same r p e
       go (err k vs p) e = refl
 

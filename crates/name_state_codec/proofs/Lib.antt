@@ -1,4 +1,5 @@
 pub mod Inside
+pub mod Steps
 pub mod Stored
 pub mod Canonical
 pub mod Own

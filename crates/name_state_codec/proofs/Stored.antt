@@ -7,7 +7,7 @@ use mathlib.Core.Bool.{Bool, true, false}
 use lib.ListN.{length, take, drop, replicate}
 use lib.Dec.{eqb}
 use Rattle.words.proofs.Le.{part-long}
-use Rattle.words.specs.Buffers.{pick, laid, padded}
+use Rattle.words.specs.Buffers.{pick, laid, zeroPadded}
 use Rattle.words.proofs.Over.{over-zeros}
 use Rattle.refusal.specs.Outcome.{Outcome, ok, err, then, past}
 use Rattle.encoding.specs.Wire.{finishAt}
@@ -16,26 +16,26 @@ use Rattle.name_state.specs.Paper.{stored, stateOf}
 use Rattle.name_state.specs.declared.NameState.{NameState}
 use Rattle.name_state.proofs.Theorems.{stored-holds}
 use Rattle.name_state_codec.specs.Read.{standingAt}
-use Rattle.name_state_codec.specs.Paper.{zeros, shownState}
+use Rattle.name_state_codec.specs.Paper.{zeroState, shownState}
 use Rattle.name_state_codec.specs.Workers.{judgedBits}
 
 -- a part of the record, laid over an array of zeros
-pub padded-part : (s : List ℕ) (at n m : ℕ) {bs : List ℕ} → at + n ≤ length s → n ≤ m → bs ≡ laid 0 (take (at + n - at) (drop at s)) (replicate m 0) → bs ≡ padded m (take n (drop at s))
-unfolding padded
+pub padded-part : (s : List ℕ) (at n m : ℕ) {bs : List ℕ} → at + n ≤ length s → n ≤ m → bs ≡ laid 0 (take (at + n - at) (drop at s)) (replicate m 0) → bs ≡ zeroPadded m (take n (drop at s))
+unfolding zeroPadded
 padded-part s at n m h k e =
     let long = part-long s at n h in
     let size : at + n - at ≡ n = omega arith in
     e ∙ rw size (over-zeros (take n (drop at s)) (m - length (take n (drop at s))) m (omega arith))
 
 -- a state from its parts
-pub stored-made : (g : State) {name resource : List ℕ} {n m : ℕ} → name ≡ padded 63 (g .name) → n ≡ length (g .name) → resource ≡ padded 512 (g .resource) → m ≡ length (g .resource)
+pub stored-made : (g : State) {name resource : List ℕ} {n m : ℕ} → name ≡ zeroPadded 63 (g .name) → n ≡ length (g .name) → resource ≡ zeroPadded 512 (g .resource) → m ≡ length (g .resource)
     → _≡_ {A = NameState} (record { «name_hash» = record { 0 = g .key }; name = name; «name_length» = n; «resource_data» = resource; «resource_length» = m; height = record { 0 = g .height }; renewal = record { 0 = g .renewal }; owner = g .owner; value = record { 0 = g .value }; highest = record { 0 = g .highest }; transfer = record { 0 = g .transfer }; revoked = record { 0 = g .revoked }; claimed = record { 0 = g .claimed }; renewals = g .renewals; registered = g .registered; expired = g .expired; weak = g .weak }) (stored g)
 stored-made g e n f m = rw (e, n, f, m)
 
 -- an outcome, and beside it a state where it was not refused
 abbrev beside : Outcome State → NameState → Outcome Unit × NameState
 beside (ok t p) n = (ok tt p, n)
-beside (err k vs p) n = (err k vs p, zeros)
+beside (err k vs p) n = (err k vs p, zeroState)
 
 beside-stored : (s : List ℕ) (b : ℕ) (g : State) (at : ℕ) → beside (judgedBits s (b, g) at) (stored g) ≡ shownState (judgedBits s (b, g) at)
 unfolding judgedBits
@@ -64,7 +64,7 @@ judged-stored s b g at e h k f =
 -- a state beside what a judgement came to, where the judgement was told without it
 abbrev pub besidePast : Outcome Unit → NameState → Outcome Unit × NameState
 besidePast (ok u p) n = (ok u p, n)
-besidePast (err k vs p) n = (err k vs p, zeros)
+besidePast (err k vs p) n = (err k vs p, zeroState)
 
 beside-past : (o : Outcome State) (n : NameState) → beside o n ≡ besidePast (past o) n
 beside-past (ok t p) n = refl

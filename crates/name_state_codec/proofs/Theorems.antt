@@ -23,7 +23,7 @@ use Rattle.names.specs.Name.{maxNameSize, nameHash}
 use Rattle.name_state.specs.State.{State, maxResourceSize, maxSize, maxSafeInteger, null, bitmap, binding}
 use Rattle.name_state.proofs.Bound.{Keyed, bound-keyed, keyed-bound}
 use Rattle.name_state_codec.specs.Written.{has, safeInteger, textsBytes, numbersBytes, heldBytes, timesBytes, recordWith, stateBytes, checkedSize}
-use Rattle.name_state_codec.specs.Read.{unknownBits, ownerIndex, renewalCount, knownBits, maxU32, upTo, textsAt, numbersAt, present, ownerAt, amountAt, amountsAt, heldAt, timesAt, gathered, optionalAt, fieldsAt, standingAt, judged, readState}
+use Rattle.name_state_codec.specs.Read.{unknownBits, ownerIndex, renewalCount, knownBits, maxU32, upTo, textsAt, numbersAt, present, ownerAt, amountAt, amountsAt, heldAt, timesAt, gathered, optionalAt, fieldsAt, standingAt, judgedState, readState}
 use Rattle.name_state_codec.specs.Theorems.{Sized, Writable, AcceptedIsWritable, WritableIsAccepted, EncodeWrites, StateReadsBack, AcceptedIsWritten, WrittenAgain, StateHasOneReading, SameBytesSameKey}
 use Rattle.name_state_codec.proofs.Inside.{up-to, texts-inside}
 use Rattle.name_state_codec.proofs.Canonical.{finish-end}
@@ -50,7 +50,7 @@ bound : (t : State) → Writable t → binding t ≡ ok tt 0
 bound t w = keyed-bound t (w .bound)
 
 pub state-reads-back : StateReadsBack
-unfolding readState judged finishAt inside remainingAt
+unfolding readState judgedState finishAt inside remainingAt
 state-reads-back t w =
     let s = stateBytes t in
     let n = length s in
@@ -179,7 +179,7 @@ pub record Accepted (key s : List ℕ) (t : State) (p : ℕ) : Type 0 where
   pub ends : p ≡ length s
 
 pub accepted : (key s : List ℕ) (t : State) (p : ℕ) → readState key s ≡ ok t p → Accepted key s t p
-unfolding readState judged
+unfolding readState judgedState
 accepted key s t p e =
     let a = passed (ltb maxSize (length s)) _ _ _ _ e in
     let few = ltb-false maxSize (length s) (a .0) in

@@ -14,13 +14,13 @@ abbrev pub decodedPaper : Decoded → Outcome Unit × NameState
 decodedPaper d = (movedPaper (d .read), d .state)
 
 -- "Unused parts of an answer are zeros"
-abbrev pub zeros : NameState
-zeros = stored (bare (replicate 32 0) [] (outpoint (replicate 32 0) 0))
+abbrev pub zeroState : NameState
+zeroState = stored (bare (replicate 32 0) [] (outpoint (replicate 32 0) 0))
 
 -- what is handed out: the state beside the outcome, zeros where it was refused
 abbrev pub shownState : Outcome State → Outcome Unit × NameState
 shownState (ok t p) = (ok tt p, stored t)
-shownState (err k vs p) = (err k vs p, zeros)
+shownState (err k vs p) = (err k vs p, zeroState)
 
 -- the reader's answer as what was read (proofs/Decoded.antt: it is `readState`)
 abbrev pub decodedState : Decoded → Outcome State

@@ -1,5 +1,5 @@
--- Reading a record (document 01, module 6): "Read order: input over 668 (5); fields left to right, each judged when read; trailing bytes; then unless
--- null, 6 or 9; then 8 unless the writer would give the same bytes".
+-- Reading a record (document 01, module 6): "Read order: input over 668 (5); fields left to right, each judged when
+-- read; trailing bytes; then unless null, 6 or 9; then 8 unless the writer would give the same bytes".
 use Prim.Native.Nat.{ℕ}
 use mathlib.Core.List.{List, [], _∷_}
 use mathlib.Core.Bool.{Bool}
@@ -140,8 +140,8 @@ standingAt p (ok u q) = ok u p
 standingAt p (err k vs q) = err k vs p
 
 -- "trailing bytes; then unless null, 6 or 9; then 8 unless the writer would give the same bytes"
-unfoldable pub judged : List ℕ → ℕ × State → ℕ → Outcome State
-judged s read end =
+unfoldable pub judgedState : List ℕ → ℕ × State → ℕ → Outcome State
+judgedState s read end =
     then (finishAt s end) (λ u at.
     then (standingAt at (binding (read .1))) (λ u p.
     pick (same (stateBytes (read .1)) s) (ok (read .1) p) (err 8 [] p)))
@@ -150,4 +150,4 @@ judged s read end =
 unfoldable pub readState : List ℕ → List ℕ → Outcome State
 readState key s =
     pick (ltb maxSize (length s)) (err 5 (length s ∷ maxSize ∷ []) 0)
-    (then (fieldsAt key s 0) (judged s))
+    (then (fieldsAt key s 0) (judgedState s))

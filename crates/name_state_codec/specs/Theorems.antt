@@ -61,7 +61,8 @@ WrittenAgain =
     (key s : List ℕ) (t : State) (p : ℕ) (d : List ℕ) → readState key s ≡ ok t p → length s ≤ length d
     → (encodeAnswer t d ≡ wrote (length s)) × (take (length s) (encodeContent t d) ≡ s)
 
--- two states under one key are the same state, name, resource and fields, if the record of one begins the record of the other
+-- two states under one key are the same state, name, resource and fields, if the record of one begins the record of the
+-- other
 abbrev pub StateHasOneReading : Type 0
 StateHasOneReading = (t u : State) (rest : List ℕ) → Writable t → Writable u → t .key ≡ u .key → stateBytes t ++ rest ≡ stateBytes u → t ≡ u
 

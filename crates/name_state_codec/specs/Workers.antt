@@ -7,81 +7,72 @@ use lib.Dec.{eqb}
 use Rattle.words.specs.Words.{bytes}
 use Rattle.words.specs.Buffers.{pick}
 use Rattle.refusal.specs.Outcome.{Outcome, ok, err, then}
-use Rattle.refusal.specs.Paper.{stopped}
 use Rattle.encoding.specs.Wire.{compact, finishAt}
 use Rattle.encoding.specs.Paper.{movedPaper}
-use Rattle.primitives.specs.Outpoints.{isNull}
-use Rattle.primitives.specs.declared.NameHash.{NameHash}
+use Rattle.primitives.specs.Outpoints.{nullOutpoint, isNull}
 use Rattle.primitives.specs.declared.Outpoint.{Outpoint}
 use Rattle.primitives.specs.declared.ReadOutpoint.{ReadOutpoint}
 use Rattle.names.specs.Name.{maxNameSize}
 use Rattle.name_state.specs.State.{State, maxResourceSize, bitmap, binding}
 use Rattle.name_state.specs.declared.Amounts.{Amounts}
 use Rattle.name_state.specs.declared.Times.{Times}
-use Rattle.name_state_codec.specs.declared.read.Texts.{Texts}
-use Rattle.name_state_codec.specs.declared.read.ReadTexts.{ReadTexts}
 use Rattle.name_state_codec.specs.declared.read.Numbers.{Numbers}
-use Rattle.name_state_codec.specs.declared.read.ReadNumbers.{ReadNumbers}
-use Rattle.name_state_codec.specs.declared.read.ReadAmounts.{ReadAmounts}
-use Rattle.name_state_codec.specs.declared.read.ReadTimes.{ReadTimes}
-use Rattle.name_state_codec.specs.Read.{numbersAt, amountsAt, timesAt, gathered, optionalAt, standingAt}
-use Rattle.name_state_codec.specs.Written.{given, ownerRecord}
+use Rattle.name_state_codec.specs.declared.read.Fields.{Fields}
+use Rattle.name_state_codec.specs.declared.read.Reading.{Reading}
+use Rattle.name_state_codec.specs.Read.{present, textsAt, numbersAt, ownerAt, amountsAt, timesAt, gathered, standingAt}
+use Rattle.name_state_codec.specs.Written.{has, given, ownerRecord}
 
--- ---- the answers on the way, in numbers
-abbrev pub saidTexts : Texts → (ℕ × ℕ) × (ℕ × ℕ)
-saidTexts t = ((t .«name_at», t .«name_length»), (t .«resource_at», t .«resource_length»))
+-- ---- the fields read so far, in numbers: texts, numbers, owner, amounts, times
+abbrev pub Said : Type 0
+Said = ((ℕ × ℕ) × (ℕ × ℕ)) × (ℕ × ℕ × ℕ) × Outpoint × (ℕ × ℕ) × (ℕ × ℕ × ℕ × ℕ)
 
-abbrev pub textsPaper : ReadTexts → Outcome ((ℕ × ℕ) × (ℕ × ℕ))
-textsPaper (ReadTexts.Value t next) = ok (saidTexts t) (next .position)
-textsPaper (ReadTexts.Refused s) = stopped s
+abbrev pub said : Fields → Said
+said f = (
+  ((f .«name_at», f .«name_length»), (f .«resource_at», f .«resource_length»)),
+  (f .height .0, f .renewal .0, f .bits),
+  f .owner,
+  (f .value .0, f .highest .0),
+  (f .transfer .0, f .revoked .0, f .claimed .0, f .renewals),
+)
 
-abbrev pub saidNumbers : Numbers → ℕ × ℕ × ℕ
-saidNumbers n = (n .height .0, n .renewal .0, n .bits)
-
-abbrev pub numbersPaper : ReadNumbers → Outcome (ℕ × ℕ × ℕ)
-numbersPaper (ReadNumbers.Value n next) = ok (saidNumbers n) (next .position)
-numbersPaper (ReadNumbers.Refused s) = stopped s
+abbrev pub readingPaper : Reading → Outcome Said
+readingPaper r = then (movedPaper (r .moved)) (λ u p. ok (said (r .fields)) p)
 
 abbrev pub ownerPaper : ReadOutpoint → Outcome Outpoint
 ownerPaper r = then (movedPaper (r .moved)) (λ u p. ok (r .outpoint) p)
 
-abbrev pub saidAmounts : Amounts → ℕ × ℕ
-saidAmounts a = (a .value .0, a .highest .0)
+-- ---- the steps: what is read next, beside what was read
+abbrev pub withTexts : List ℕ → Said → Outcome Said
+withTexts s f = then (textsAt s 0) (λ texts end. ok (texts, f .1, f .2, f .3, f .4) end)
 
-abbrev pub amountsPaper : ReadAmounts → Outcome (ℕ × ℕ)
-amountsPaper (ReadAmounts.Value a next) = ok (saidAmounts a) (next .position)
-amountsPaper (ReadAmounts.Refused s) = stopped s
+abbrev pub withNumbers : List ℕ → Said → ℕ → Outcome Said
+withNumbers s f at = then (numbersAt s at) (λ numbers end. ok (f .0, numbers, f .2, f .3, f .4) end)
 
-abbrev pub saidTimes : Times → ℕ × ℕ × ℕ × ℕ
-saidTimes t = (t .transfer .0, t .revoked .0, t .claimed .0, t .renewals)
+abbrev pub withOwner : List ℕ → Said → ℕ → Outcome Said
+withOwner s f at = then (present (has 1 (f .1 .2)) (ownerAt s at) nullOutpoint at) (λ owner end. ok (f .0, f .1, owner, f .3, f .4) end)
 
-abbrev pub timesPaper : ReadTimes → Outcome (ℕ × ℕ × ℕ × ℕ)
-timesPaper (ReadTimes.Value t next) = ok (saidTimes t) (next .position)
-timesPaper (ReadTimes.Refused s) = stopped s
+abbrev pub withAmounts : List ℕ → Said → ℕ → Outcome Said
+withAmounts s f at = then (amountsAt (f .1 .2) s at) (λ amounts end. ok (f .0, f .1, f .2, amounts, f .4) end)
+
+abbrev pub withTimes : List ℕ → Said → ℕ → Outcome Said
+withTimes s f at = then (timesAt (f .1 .2) s at) (λ times end. ok (f .0, f .1, f .2, f .3, times) end)
+
+abbrev pub gatheredOf : List ℕ → List ℕ → Said → State
+gatheredOf key s f = gathered key s (f .0) (f .1) (f .2, f .3) (f .4)
+
+abbrev pub gatheredAt : List ℕ → List ℕ → Said → ℕ → Outcome (ℕ × State)
+gatheredAt key s f at = ok (f .1 .2, gatheredOf key s f) at
 
 -- the texts stand inside the record, and none is too long
-abbrev pub Inside : Texts → List ℕ → Type 0
-Inside t s =
-    (t .«name_length» ≤ maxNameSize) × (t .«resource_length» ≤ maxResourceSize)
-    × (t .«name_at» + t .«name_length» ≤ length s) × (t .«resource_at» + t .«resource_length» ≤ length s)
+abbrev pub Inside : List ℕ → Said → Type 0
+Inside s f =
+    (f .0 .0 .1 ≤ maxNameSize) × (f .0 .1 .1 ≤ maxResourceSize)
+    × (f .0 .0 .0 + f .0 .0 .1 ≤ length s) × (f .0 .1 .0 + f .0 .1 .1 ≤ length s)
 
--- ---- what is read from a place on, where the fields before it are known
-abbrev pub gatheredOf : NameHash → List ℕ → Texts → Numbers → Outpoint → Amounts → Times → State
-gatheredOf key s texts numbers owner amounts times =
-    gathered (key .0) s (saidTexts texts) (saidNumbers numbers) (owner, saidAmounts amounts) (saidTimes times)
-
-abbrev pub fromTimes : List ℕ → List ℕ → Texts → Numbers → Outpoint × (ℕ × ℕ) → ℕ → Outcome (ℕ × State)
-fromTimes key s texts numbers held at =
-    then (timesAt (numbers .bits) s at) (λ times end.
-    ok (numbers .bits, gathered key s (saidTexts texts) (saidNumbers numbers) held times) end)
-
-abbrev pub fromAmounts : List ℕ → List ℕ → Texts → Numbers → Outpoint → ℕ → Outcome (ℕ × State)
-fromAmounts key s texts numbers owner at =
-    then (then (amountsAt (numbers .bits) s at) (λ amounts next. ok (owner, amounts) next)) (λ held next.
-    fromTimes key s texts numbers held next)
-
-abbrev pub fromNumbers : List ℕ → List ℕ → Texts → ℕ → Outcome (ℕ × State)
-fromNumbers key s texts at = then (numbersAt s at) (λ numbers end. optionalAt key s (saidTexts texts) numbers end)
+-- what holds of what was read, where it was not refused
+abbrev pub Each : {A : Type 0} → (A → Type 0) → Outcome A → Type 0
+Each P (ok a p) = P a
+Each P (err k vs p) = Unit
 
 -- ---- the judgement with 8 told by the bitmap, as the code does (proofs/Canonical.antt: `read-bits`, it is the same)
 unfoldable pub judgedBits : List ℕ → ℕ × State → ℕ → Outcome State

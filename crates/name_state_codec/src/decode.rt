@@ -1,22 +1,16 @@
 // Reading a state under its key.
-use crate::read::Numbers;
-use crate::read::ReadAmounts;
-use crate::read::ReadNumbers;
-use crate::read::ReadTexts;
-use crate::read::ReadTimes;
-use crate::read::Texts;
-use crate::read::read_amounts;
-use crate::read::read_numbers;
-use crate::read::read_owner;
-use crate::read::read_texts;
-use crate::read::read_times;
+use crate::read::Fields;
+use crate::read::Reading;
+use crate::read::no_fields;
+use crate::read::with_amounts;
+use crate::read::with_numbers;
+use crate::read::with_owner;
+use crate::read::with_texts;
+use crate::read::with_times;
 use encoding::read::Cursor;
 use encoding::read::Moved;
-use name_state::Amounts;
 use name_state::NameState;
-use name_state::Times;
 use primitives::NameHash;
-use primitives::Outpoint;
 use refusal::Judgement;
 use refusal::Refusal;
 use refusal::Stop;
@@ -30,9 +24,9 @@ ghost use Rattle.encoding.specs.declared.read.Moved.{Moved};
 ghost use Rattle.encoding.specs.Paper.{movedPaper};
 ghost use Rattle.name_state.specs.State.{maxSize};
 ghost use Rattle.name_state.specs.Paper.{stateOf, stored};
-ghost use Rattle.name_state_codec.specs.Read.{optionalAt, standingAt, readState};
-ghost use Rattle.name_state_codec.specs.Paper.{decodedPaper, zeros, shownState};
-ghost use Rattle.name_state_codec.specs.Workers.{saidTexts, saidNumbers, saidAmounts, Inside, gatheredOf, fromTimes, fromAmounts, fromNumbers, judgedBits};
+ghost use Rattle.name_state_codec.specs.Read.{standingAt, readState};
+ghost use Rattle.name_state_codec.specs.Paper.{decodedPaper, zeroState, shownState};
+ghost use Rattle.name_state_codec.specs.Workers.{said, readingPaper, gatheredOf, gatheredAt, Inside, Each, judgedBits};
 
 // Whether the bytes are a state's record, and the state; zeros where refused.
 pub struct Decoded {
@@ -41,7 +35,7 @@ pub struct Decoded {
 }
 
 fn refused(stop: Stop) -> Decoded
-    ensures { λ d. ⌜ (d .read ≡ Moved.Refused stop) × (d .state ≡ zeros) ⌝ }
+    ensures { λ d. ⌜ (d .read ≡ Moved.Refused stop) × (d .state ≡ zeroState) ⌝ }
 {
     let mut state = NameState::null(NameHash([0u8; 32]));
     state.owner.index = 0;
@@ -52,34 +46,27 @@ fn refused(stop: Stop) -> Decoded
 }
 
 // The state that the fields make.
-fn build(
-    key: NameHash,
-    s: &[u8],
-    texts: Texts,
-    numbers: Numbers,
-    owner: Outpoint,
-    amounts: Amounts,
-    times: Times,
-) -> NameState
-    requires { ⌜ Inside texts (now s) ⌝ }
-    ensures { λ r. ⌜ r ≡ stored (gatheredOf key (now (s .entry)) texts numbers owner amounts times) ⌝ }
+fn build(key: NameHash, s: &[u8], fields: Fields) -> NameState
+    requires { ⌜ Inside (now s) (said fields) ⌝ }
+    ensures { λ r. ⌜ r ≡ stored (gatheredOf (key .0) (now (s .entry)) (said fields)) ⌝ }
 {
-    let a = texts.name_at;
-    let n = texts.name_length;
+    let a = fields.name_at;
+    let n = fields.name_length;
     let mut name = [0u8; 63];
     put_bytes(&mut name, 0, &s[a..a + n]);
-    let b = texts.resource_at;
-    let m = texts.resource_length;
+    let b = fields.resource_at;
+    let m = fields.resource_length;
     let mut resource = [0u8; 512];
     put_bytes(&mut resource, 0, &s[b..b + m]);
-    let bits = numbers.bits;
-    let height = numbers.height;
-    let renewal = numbers.renewal;
-    let value = amounts.value;
-    let highest = amounts.highest;
-    let transfer = times.transfer;
-    let revoked = times.revoked;
-    let claimed = times.claimed;
+    let bits = fields.bits;
+    let height = fields.height;
+    let renewal = fields.renewal;
+    let owner = fields.owner;
+    let value = fields.value;
+    let highest = fields.highest;
+    let transfer = fields.transfer;
+    let revoked = fields.revoked;
+    let claimed = fields.claimed;
     NameState {
         name_hash: key,
         name,
@@ -94,7 +81,7 @@ fn build(
         transfer,
         revoked,
         claimed,
-        renewals: times.renewals,
+        renewals: fields.renewals,
         registered: bits / 128 % 2 == 1,
         expired: bits / 256 % 2 == 1,
         weak: bits / 512 % 2 == 1,
@@ -144,21 +131,12 @@ fn judge(s: &[u8], bits: u16, state: NameState, c: Cursor) -> Moved
 }
 
 // The state of all fields, and the judgement.
-fn gather(
-    key: NameHash,
-    s: &[u8],
-    texts: Texts,
-    numbers: Numbers,
-    owner: Outpoint,
-    amounts: Amounts,
-    times: Times,
-    c: Cursor,
-) -> Decoded
-    requires { ⌜ Inside texts (now s) ⌝ }
-    ensures { λ d. ⌜ decodedPaper d ≡ shownState (judgedBits (now (s .entry)) (numbers .bits, gatheredOf key (now (s .entry)) texts numbers owner amounts times) (c .position)) ⌝ }
+fn gather(key: NameHash, s: &[u8], fields: Fields, c: Cursor) -> Decoded
+    requires { ⌜ Inside (now s) (said fields) ⌝ }
+    ensures { λ d. ⌜ decodedPaper d ≡ shownState (then (gatheredAt (key .0) (now (s .entry)) (said fields) (c .position)) (judgedBits (now (s .entry)))) ⌝ }
 {
-    let state = build(key, s, texts, numbers, owner, amounts, times);
-    let read = judge(s, numbers.bits, state, c);
+    let state = build(key, s, fields);
+    let read = judge(s, fields.bits, state, c);
     match read {
         Moved::To(_) => {
             return Decoded { read, state };
@@ -169,61 +147,16 @@ fn gather(
     }
 }
 
-// The times, and the judgement.
-fn read_from_times(
-    key: NameHash,
-    s: &[u8],
-    texts: Texts,
-    numbers: Numbers,
-    owner: Outpoint,
-    amounts: Amounts,
-    c: Cursor,
-) -> Decoded
-    requires { ⌜ Inside texts (now s) ⌝ }
-    ensures { λ d. ⌜ decodedPaper d ≡ shownState (then (fromTimes (key .0) (now (s .entry)) texts numbers (owner, saidAmounts amounts) (c .position)) (judgedBits (now (s .entry)))) ⌝ }
+// The judgement of what was read, or the refusal.
+fn judged(key: NameHash, s: &[u8], reading: Reading) -> Decoded
+    requires { ⌜ Each (Inside (now s)) (readingPaper reading) ⌝ }
+    ensures { λ d. ⌜ decodedPaper d ≡ shownState (then (then (readingPaper reading) (gatheredAt (key .0) (now (s .entry)))) (judgedBits (now (s .entry)))) ⌝ }
 {
-    match read_times(s, c, numbers.bits) {
-        ReadTimes::Value(times, end) => {
-            return gather(key, s, texts, numbers, owner, amounts, times, end);
-        }
-        ReadTimes::Refused(stop) => {
-            return refused(stop);
-        }
-    }
-}
-
-// The amounts, and what comes after them.
-fn read_from_amounts(
-    key: NameHash,
-    s: &[u8],
-    texts: Texts,
-    numbers: Numbers,
-    owner: Outpoint,
-    c: Cursor,
-) -> Decoded
-    requires { ⌜ Inside texts (now s) ⌝ }
-    ensures { λ d. ⌜ decodedPaper d ≡ shownState (then (fromAmounts (key .0) (now (s .entry)) texts numbers owner (c .position)) (judgedBits (now (s .entry)))) ⌝ }
-{
-    match read_amounts(s, c, numbers.bits) {
-        ReadAmounts::Value(amounts, next) => {
-            return read_from_times(key, s, texts, numbers, owner, amounts, next);
-        }
-        ReadAmounts::Refused(stop) => {
-            return refused(stop);
-        }
-    }
-}
-
-// The fields that the bitmap tells of, and the judgement.
-fn optional(key: NameHash, s: &[u8], texts: Texts, numbers: Numbers, c: Cursor) -> Decoded
-    requires { ⌜ Inside texts (now s) ⌝ }
-    ensures { λ d. ⌜ decodedPaper d ≡ shownState (then (optionalAt (key .0) (now (s .entry)) (saidTexts texts) (saidNumbers numbers) (c .position)) (judgedBits (now (s .entry)))) ⌝ }
-{
-    let found = read_owner(s, c, numbers.bits);
-    let moved = found.moved;
+    let moved = reading.moved;
     match moved {
-        Moved::To(next) => {
-            return read_from_amounts(key, s, texts, numbers, found.outpoint, next);
+        Moved::To(c) => {
+            let fields = reading.fields;
+            return gather(key, s, fields, c);
         }
         Moved::Refused(stop) => {
             return refused(stop);
@@ -231,24 +164,9 @@ fn optional(key: NameHash, s: &[u8], texts: Texts, numbers: Numbers, c: Cursor) 
     }
 }
 
-// The numbers, and what comes after them.
-fn read_from_numbers(key: NameHash, s: &[u8], texts: Texts, c: Cursor) -> Decoded
-    requires { ⌜ Inside texts (now s) ⌝ }
-    ensures { λ d. ⌜ decodedPaper d ≡ shownState (then (fromNumbers (key .0) (now (s .entry)) texts (c .position)) (judgedBits (now (s .entry)))) ⌝ }
-{
-    match read_numbers(s, c) {
-        ReadNumbers::Value(numbers, end) => {
-            return optional(key, s, texts, numbers, end);
-        }
-        ReadNumbers::Refused(stop) => {
-            return refused(stop);
-        }
-    }
-}
-
 // A record above 668 bytes is not read.
 fn too_large(actual: usize) -> Decoded
-    ensures { λ d. ⌜ decodedPaper d ≡ (err 5 (actual ∷ maxSize ∷ []) 0, zeros) ⌝ }
+    ensures { λ d. ⌜ decodedPaper d ≡ (err 5 (actual ∷ maxSize ∷ []) 0, zeroState) ⌝ }
 {
     let refusal = Refusal::TooLarge {
         actual,
@@ -267,12 +185,10 @@ pub fn decode(key: NameHash, s: &[u8]) -> Decoded
     if NameState::MAX_SIZE < s.len() {
         return too_large(s.len());
     }
-    match read_texts(s, Cursor { position: 0 }) {
-        ReadTexts::Value(texts, next) => {
-            return read_from_numbers(key, s, texts, next);
-        }
-        ReadTexts::Refused(stop) => {
-            return refused(stop);
-        }
-    }
+    let mut reading = with_texts(s, no_fields());
+    reading = with_numbers(s, reading);
+    reading = with_owner(s, reading);
+    reading = with_amounts(s, reading);
+    reading = with_times(s, reading);
+    judged(key, s, reading)
 }

@@ -6,9 +6,7 @@ use encoding::read::ReadU8;
 use encoding::read::ReadU16;
 use encoding::read::ReadU32;
 use encoding::read::ReadU64;
-use name_state::Amounts;
 use name_state::NameState;
-use name_state::Times;
 use primitives::Dollarydoos;
 use primitives::Height;
 use primitives::Outpoint;
@@ -28,22 +26,9 @@ ghost use Rattle.encoding.specs.Paper.{spanPaper, u16Paper, u32Paper, u64Paper}
 ghost use Rattle.primitives.specs.Outpoints.{outpoint, nullOutpoint};
 ghost use Rattle.names.specs.Name.{maxNameSize};
 ghost use Rattle.name_state.specs.State.{maxResourceSize};
-ghost use Rattle.name_state_codec.specs.Read.{nameOver, resourceOver, unknownBits, ownerIndex, renewalCount, knownBits, maxU32, upTo, textAt, textsAt, numbersAt, present, ownerAt, amountAt, amountsAt, timesAt};
+ghost use Rattle.name_state_codec.specs.Read.{nameOver, resourceOver, unknownBits, ownerIndex, renewalCount, knownBits, maxU32, upTo, textAt, present, ownerAt, amountAt};
 ghost use Rattle.name_state_codec.specs.Written.{has};
-ghost use Rattle.name_state_codec.specs.Workers.{textsPaper, numbersPaper, ownerPaper, amountsPaper, timesPaper};
-
-// Where the name and the resource stand.
-pub struct Texts {
-    pub name_at: usize,
-    pub name_length: usize,
-    pub resource_at: usize,
-    pub resource_length: usize,
-}
-
-pub enum ReadTexts {
-    Value(Texts, Cursor),
-    Refused(Stop),
-}
+ghost use Rattle.name_state_codec.specs.Workers.{said, readingPaper, withTexts, withNumbers, withOwner, withAmounts, withTimes, ownerPaper};
 
 // Height, renewal and the bitmap.
 pub struct Numbers {
@@ -52,19 +37,49 @@ pub struct Numbers {
     pub bits: u16,
 }
 
-pub enum ReadNumbers {
-    Value(Numbers, Cursor),
-    Refused(Stop),
+// The fields of a record; of the name and the resource, where they stand.
+pub struct Fields {
+    pub name_at: usize,
+    pub name_length: usize,
+    pub resource_at: usize,
+    pub resource_length: usize,
+    pub height: Height,
+    pub renewal: Height,
+    pub bits: u16,
+    pub owner: Outpoint,
+    pub value: Dollarydoos,
+    pub highest: Dollarydoos,
+    pub transfer: Height,
+    pub revoked: Height,
+    pub claimed: Height,
+    pub renewals: u32,
 }
 
-pub enum ReadAmounts {
-    Value(Amounts, Cursor),
-    Refused(Stop),
+// The fields read so far, and where the reader stands, or why it stopped; what a refused reading holds is not looked
+// at.
+pub struct Reading {
+    pub fields: Fields,
+    pub moved: Moved,
 }
 
-pub enum ReadTimes {
-    Value(Times, Cursor),
-    Refused(Stop),
+// What a reading begins with.
+pub(crate) fn no_fields() -> Fields {
+    Fields {
+        name_at: 0,
+        name_length: 0,
+        resource_at: 0,
+        resource_length: 0,
+        height: Height(0),
+        renewal: Height(0),
+        bits: 0,
+        owner: Outpoint::NULL,
+        value: Dollarydoos(0),
+        highest: Dollarydoos(0),
+        transfer: Height(0),
+        revoked: Height(0),
+        claimed: Height(0),
+        renewals: 0,
+    }
 }
 
 // The reasons of `InvalidNameState`, in the table's order.
@@ -149,11 +164,22 @@ fn read_resource(s: &[u8], c: Cursor) -> ReadSpan
     }
 }
 
-// The name and the resource.
-pub(crate) fn read_texts(s: &[u8], c: Cursor) -> ReadTexts
-    ensures { λ r. ⌜ textsPaper r ≡ textsAt (now (s .entry)) (c .position) ⌝ }
+fn stopped(fields: Fields, stop: Stop) -> Reading
+    ensures { λ r. ⌜ r .moved ≡ Moved.Refused stop ⌝ }
 {
-    match read_name(s, c) {
+    Reading {
+        fields,
+        moved: Moved::Refused(stop),
+    }
+}
+
+// ---- the steps: each reads on from where the reader stands, and passes a refusal on
+
+// The name and the resource.
+pub(crate) fn with_texts(s: &[u8], mut fields: Fields) -> Reading
+    ensures { λ r. ⌜ readingPaper r ≡ withTexts (now (s .entry)) (said fields) ⌝ }
+{
+    match read_name(s, Cursor { position: 0 }) {
         ReadSpan::Span {
             start: a,
             len: n,
@@ -164,20 +190,21 @@ pub(crate) fn read_texts(s: &[u8], c: Cursor) -> ReadTexts
                 len: m,
                 next: end,
             } => {
-                let texts = Texts {
-                    name_at: a,
-                    name_length: n,
-                    resource_at: b,
-                    resource_length: m,
+                fields.name_at = a;
+                fields.name_length = n;
+                fields.resource_at = b;
+                fields.resource_length = m;
+                return Reading {
+                    fields,
+                    moved: Moved::To(end),
                 };
-                return ReadTexts::Value(texts, end);
             }
             ReadSpan::Refused(stop) => {
-                return ReadTexts::Refused(stop);
+                return stopped(fields, stop);
             }
         },
         ReadSpan::Refused(stop) => {
-            return ReadTexts::Refused(stop);
+            return stopped(fields, stop);
         }
     }
 }
@@ -201,30 +228,40 @@ fn read_bits(s: &[u8], c: Cursor) -> ReadU16
 }
 
 // Height, renewal and the bitmap.
-pub(crate) fn read_numbers(s: &[u8], c: Cursor) -> ReadNumbers
-    ensures { λ r. ⌜ numbersPaper r ≡ numbersAt (now (s .entry)) (c .position) ⌝ }
+pub(crate) fn with_numbers(s: &[u8], reading: Reading) -> Reading
+    ensures { λ r. ⌜ readingPaper r ≡ then (readingPaper reading) (withNumbers (now (s .entry))) ⌝ }
 {
-    match c.read_u32_le(s) {
-        ReadU32::Value(height, c1) => match c1.read_u32_le(s) {
-            ReadU32::Value(renewal, c2) => match read_bits(s, c2) {
-                ReadU16::Value(bits, end) => {
-                    let numbers = Numbers {
-                        height: Height(height),
-                        renewal: Height(renewal),
-                        bits,
-                    };
-                    return ReadNumbers::Value(numbers, end);
-                }
-                ReadU16::Refused(stop) => {
-                    return ReadNumbers::Refused(stop);
+    let moved = reading.moved;
+    let mut fields = reading.fields;
+    match moved {
+        Moved::To(c) => match c.read_u32_le(s) {
+            ReadU32::Value(height, c1) => match c1.read_u32_le(s) {
+                ReadU32::Value(renewal, c2) => match read_bits(s, c2) {
+                    ReadU16::Value(bits, end) => {
+                        let height = Height(height);
+                        let renewal = Height(renewal);
+                        fields.height = height;
+                        fields.renewal = renewal;
+                        fields.bits = bits;
+                        return Reading {
+                            fields,
+                            moved: Moved::To(end),
+                        };
+                    }
+                    ReadU16::Refused(stop) => {
+                        return stopped(fields, stop);
+                    }
+                },
+                ReadU32::Refused(stop) => {
+                    return stopped(fields, stop);
                 }
             },
             ReadU32::Refused(stop) => {
-                return ReadNumbers::Refused(stop);
+                return stopped(fields, stop);
             }
         },
-        ReadU32::Refused(stop) => {
-            return ReadNumbers::Refused(stop);
+        Moved::Refused(_) => {
+            return reading;
         }
     }
 }
@@ -293,7 +330,7 @@ fn read_present_owner(s: &[u8], c: Cursor) -> ReadOutpoint
 }
 
 // The owner where bit 0 is set, else the null outpoint.
-pub(crate) fn read_owner(s: &[u8], c: Cursor, bits: u16) -> ReadOutpoint
+fn read_owner(s: &[u8], c: Cursor, bits: u16) -> ReadOutpoint
     ensures { λ r. ⌜ ownerPaper r ≡ present (has 1 bits) (ownerAt (now (s .entry)) (c .position)) nullOutpoint (c .position) ⌝ }
 {
     if bits % 2 != 1 {
@@ -303,6 +340,28 @@ pub(crate) fn read_owner(s: &[u8], c: Cursor, bits: u16) -> ReadOutpoint
         };
     }
     read_present_owner(s, c)
+}
+
+pub(crate) fn with_owner(s: &[u8], reading: Reading) -> Reading
+    ensures { λ r. ⌜ readingPaper r ≡ then (readingPaper reading) (withOwner (now (s .entry))) ⌝ }
+{
+    let moved = reading.moved;
+    let mut fields = reading.fields;
+    match moved {
+        Moved::To(c) => {
+            let found = read_owner(s, c, fields.bits);
+            let owner = found.outpoint;
+            fields.owner = owner;
+            let next = found.moved;
+            return Reading {
+                fields,
+                moved: next,
+            };
+        }
+        Moved::Refused(_) => {
+            return reading;
+        }
+    }
 }
 
 // An amount where the last bit is set, else 0.
@@ -340,59 +399,82 @@ fn read_renewals(s: &[u8], c: Cursor, bits: u16) -> ReadU32
 }
 
 // Value and highest.
-pub(crate) fn read_amounts(s: &[u8], c: Cursor, bits: u16) -> ReadAmounts
-    ensures { λ r. ⌜ amountsPaper r ≡ amountsAt bits (now (s .entry)) (c .position) ⌝ }
+pub(crate) fn with_amounts(s: &[u8], reading: Reading) -> Reading
+    ensures { λ r. ⌜ readingPaper r ≡ then (readingPaper reading) (withAmounts (now (s .entry))) ⌝ }
 {
-    match read_amount(s, c, bits / 2) {
-        ReadU64::Value(value, c1) => match read_amount(s, c1, bits / 4) {
-            ReadU64::Value(highest, end) => {
-                let amounts = Amounts {
-                    value: Dollarydoos(value),
-                    highest: Dollarydoos(highest),
-                };
-                return ReadAmounts::Value(amounts, end);
-            }
+    let moved = reading.moved;
+    let mut fields = reading.fields;
+    let bits = fields.bits;
+    match moved {
+        Moved::To(c) => match read_amount(s, c, bits / 2) {
+            ReadU64::Value(value, c1) => match read_amount(s, c1, bits / 4) {
+                ReadU64::Value(highest, end) => {
+                    let value = Dollarydoos(value);
+                    let highest = Dollarydoos(highest);
+                    fields.value = value;
+                    fields.highest = highest;
+                    return Reading {
+                        fields,
+                        moved: Moved::To(end),
+                    };
+                }
+                ReadU64::Refused(stop) => {
+                    return stopped(fields, stop);
+                }
+            },
             ReadU64::Refused(stop) => {
-                return ReadAmounts::Refused(stop);
+                return stopped(fields, stop);
             }
         },
-        ReadU64::Refused(stop) => {
-            return ReadAmounts::Refused(stop);
+        Moved::Refused(_) => {
+            return reading;
         }
     }
 }
 
 // Transfer, revoked, claimed and renewals.
-pub(crate) fn read_times(s: &[u8], c: Cursor, bits: u16) -> ReadTimes
-    ensures { λ r. ⌜ timesPaper r ≡ timesAt bits (now (s .entry)) (c .position) ⌝ }
+pub(crate) fn with_times(s: &[u8], reading: Reading) -> Reading
+    ensures { λ r. ⌜ readingPaper r ≡ then (readingPaper reading) (withTimes (now (s .entry))) ⌝ }
 {
-    match read_time(s, c, bits / 8) {
-        ReadU32::Value(transfer, c1) => match read_time(s, c1, bits / 16) {
-            ReadU32::Value(revoked, c2) => match read_time(s, c2, bits / 32) {
-                ReadU32::Value(claimed, c3) => match read_renewals(s, c3, bits / 64) {
-                    ReadU32::Value(renewals, end) => {
-                        let times = Times {
-                            transfer: Height(transfer),
-                            revoked: Height(revoked),
-                            claimed: Height(claimed),
-                            renewals,
-                        };
-                        return ReadTimes::Value(times, end);
-                    }
+    let moved = reading.moved;
+    let mut fields = reading.fields;
+    let bits = fields.bits;
+    match moved {
+        Moved::To(c) => match read_time(s, c, bits / 8) {
+            ReadU32::Value(transfer, c1) => match read_time(s, c1, bits / 16) {
+                ReadU32::Value(revoked, c2) => match read_time(s, c2, bits / 32) {
+                    ReadU32::Value(claimed, c3) => match read_renewals(s, c3, bits / 64) {
+                        ReadU32::Value(renewals, end) => {
+                            let transfer = Height(transfer);
+                            let revoked = Height(revoked);
+                            let claimed = Height(claimed);
+                            fields.transfer = transfer;
+                            fields.revoked = revoked;
+                            fields.claimed = claimed;
+                            fields.renewals = renewals;
+                            return Reading {
+                                fields,
+                                moved: Moved::To(end),
+                            };
+                        }
+                        ReadU32::Refused(stop) => {
+                            return stopped(fields, stop);
+                        }
+                    },
                     ReadU32::Refused(stop) => {
-                        return ReadTimes::Refused(stop);
+                        return stopped(fields, stop);
                     }
                 },
                 ReadU32::Refused(stop) => {
-                    return ReadTimes::Refused(stop);
+                    return stopped(fields, stop);
                 }
             },
             ReadU32::Refused(stop) => {
-                return ReadTimes::Refused(stop);
+                return stopped(fields, stop);
             }
         },
-        ReadU32::Refused(stop) => {
-            return ReadTimes::Refused(stop);
+        Moved::Refused(_) => {
+            return reading;
         }
     }
 }

@@ -1,4 +1,5 @@
--- Sums and differences of amounts, as the Rust's `checked_add` and `checked_sub` have them (document 01, module 3: "Source decides on behaviour").
+-- Sums and differences of amounts, as the Rust's `checked_add` and `checked_sub` have them (document 01, module 3:
+-- "Source decides on behaviour").
 use Prim.Native.Nat.{ℕ, _+_, _-_, _^_}
 use lib.Dec.{ltb}
 use Rattle.words.specs.Buffers.{pick}

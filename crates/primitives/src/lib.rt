@@ -1,4 +1,5 @@
-// The kinds of amounts, heights and keys, each its own, and outpoints: the part of hns-primitives that names and links stand on.
+// The kinds of amounts, heights and keys, each its own, and outpoints: the part of hns-primitives that names and links
+// stand on.
 use encoding::read::Cursor;
 use encoding::read::Moved;
 use encoding::read::ReadU32;

@@ -1,4 +1,5 @@
--- Reads of the same kind, one after the other: a loop that only passes them, and a loop that walks a list that was read.
+-- Reads of the same kind, one after the other: a loop that only passes them, and a loop that walks a list that was
+-- read.
 use mathlib.Core.Path.{_≡_, refl, ap, sym, subst, _∙_}
 use Prim.Native.Nat.{ℕ, zero, suc, _+_, _-_, _≤_, _<_}
 use native.Mathlib.Omega.{arith}

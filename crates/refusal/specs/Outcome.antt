@@ -10,8 +10,9 @@ Stand = ℕ
 abbrev pub positionOf : Stand → ℕ
 positionOf p = p
 
--- a read: a value, and the position of the byte after it; or a refusal's number, what it carries, and where the reader then stands
--- (document 01: "A refused read, sheets apart, also returns the position where the Rust's `Decoder` then stands")
+-- a read: a value, and the position of the byte after it; or a refusal's number, what it carries, and where the reader
+-- then stands (document 01: "A refused read, sheets apart, also returns the position where the Rust's `Decoder` then
+-- stands")
 pub data Outcome (A : Type 0) : Type 0 where
   ok : A → ℕ → Outcome A
   err : ℕ → List ℕ → Stand → Outcome A

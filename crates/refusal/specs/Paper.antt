@@ -83,8 +83,8 @@ abbrev pub standing : Stop → Stand
 standing s = s .position
 
 -- a stopped read, as the outcome of reading anything
-abbrev pub stopped : {A : Type 0} → Stop → Outcome A
-stopped s = err (numberOf (s .refusal)) (carried (s .refusal)) (standing s)
+abbrev pub stopPaper : {A : Type 0} → Stop → Outcome A
+stopPaper s = err (numberOf (s .refusal)) (carried (s .refusal)) (standing s)
 
 -- whether a thing that is not read passes, or why not: nothing is read, so the place is 0
 abbrev pub judgementPaper : Judgement → Outcome Unit

@@ -4,8 +4,8 @@ ghost use mathlib.Core.List.{[], _∷_};
 ghost use Rattle.refusal.specs.Outcome.{refusedBy};
 ghost use Rattle.refusal.specs.Paper.{numberOf, carried, shownCarried, judgementPaper};
 
-// The names and the carried numbers are the table's. The outpoints of 12 stand beside the refusal in the verifier's answer, since an enum here
-// holds no arrays.
+// The names and the carried numbers are the table's. The outpoints of 12 stand beside the refusal in the verifier's
+// answer, since an enum here holds no arrays.
 pub enum Refusal {
     UnexpectedEnd { offset: usize, needed: usize },
     LengthExceedsBound { actual: usize, maximum: usize },

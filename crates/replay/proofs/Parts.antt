@@ -34,7 +34,7 @@ pub told-within :
 unfolding comparedOf
 told-within s entry start end next at l e h k = rw e (pick-small (same (answerOf entry (part s start end)) (part s (end + 4) next)), k, λ t. h)
 
--- a sheet that stands behind its length
+-- a sheet that stands after its length
 pub sheet-within : (n l : ℕ) → (leb 4 l && leb n (l - 4)) ≡ true → (4 ≤ l) × (4 + n ≤ l)
 sheet-within n l e =
     let w = and-true (leb 4 l) (leb n (l - 4)) e in

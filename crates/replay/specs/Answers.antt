@@ -1,4 +1,5 @@
--- Files of recorded answers of the Rust (differential/record writes them): what a record says, and when our rules say the same.
+-- Files of recorded answers of the Rust (differential/record writes them): what a record says, and when our rules say
+-- the same.
 use Prim.Native.Nat.{ℕ, _+_, _-_, _≤_, _<_}
 use mathlib.Core.Path.{_≡_}
 use mathlib.Core.Bool.{Bool, true, false, _&&_}
@@ -22,15 +23,17 @@ use Rattle.links.specs.Verify.{Said, summary, stopped, Answer, verifyOf}
 use Rattle.replay.specs.declared.records.Record.{Record}
 use Rattle.replay.specs.declared.compare.Judged.{Judged}
 
--- A record: an entry's number (1 byte), the argument's length (4 bytes) and the argument, the answer's length (4 bytes) and the answer. An answer is a
--- list of numbers of 8 bytes each, the lowest byte first, and bytes after them where the entry has some:
+-- A record: an entry's number (1 byte), the argument's length (4 bytes) and the argument, the answer's length (4 bytes)
+-- and the answer. An answer is a list of numbers of 8 bytes each, the lowest byte first, and bytes after them where the
+-- entry has some:
 --   1 a covenant that is the whole argument: number, three carried, position, kind, count, used
 --   2 a covenant in the argument after 16 bytes, its allowance and its position: the same
---   3 a state under the argument's first 32 bytes, the rest is its record: number, three carried, position, class, the name's length, the resource's;
---     where it is accepted every field: height, renewal, value, highest, transfer, revoked, claimed, renewals, the owner's index, registered, expired,
---     weak; the owner's hash (32 bytes), the name (63) and the resource (512), zeros past either length
---   4 links: the transaction sheet's length (4 bytes), the sheet, and the coin sheet: number, three carried, side, inputs, linked, names; both
---     outpoints of 12, 36 bytes each
+--   3 a state under the argument's first 32 bytes, the rest is its record: number, three carried, position, class, the
+--     name's length, the resource's; where it is accepted every field: height, renewal, value, highest, transfer,
+--     revoked, claimed, renewals, the owner's index, registered, expired, weak; the owner's hash (32 bytes), the
+--     name (63) and the resource (512), zeros past either length
+--   4 links: the transaction sheet's length (4 bytes), the sheet, and the coin sheet: number, three carried, side,
+--     inputs, linked, names; both outpoints of 12, 36 bytes each
 --   5 a name's hash: number; 32 bytes
 --   6 a blind commitment, of 8 value bytes and 32 nonce bytes: 32 bytes
 -- `answerOf` is what our rules answer, as such bytes: the definitions are those that the entries' contracts cite.
@@ -77,7 +80,7 @@ accepted others = 0 ∷ 0 ∷ 0 ∷ 0 ∷ others
 abbrev pub refused : ℕ → List ℕ → List ℕ → List ℕ
 refused k vs others = k ∷ getD vs 0 0 ∷ getD vs 1 0 ∷ getD vs 2 0 ∷ others
 
-abbrev pub covenantNumbers : Outcome covenant.Said → List ℕ
+abbrev pub covenantNumbers : Outcome covenant.Skimmed → List ℕ
 covenantNumbers (ok said p) = accepted (p ∷ said .0 ∷ said .1 ∷ said .2 ∷ [])
 covenantNumbers (err k vs p) = refused k vs (positionOf p ∷ 0 ∷ 0 ∷ 0 ∷ [])
 

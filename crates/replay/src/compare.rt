@@ -28,7 +28,8 @@ fn differs(entry: u8, a: &[u8], answer: &[u8]) -> u64
     1
 }
 
-// The record in `s` whose argument stands from `start` up to `end`, and its answer behind the four bytes of its length up to `next`.
+// The record in `s` whose argument stands from `start` up to `end`, and its answer after the four bytes of its length
+// up to `next`.
 fn compare(s: &[u8], entry: u8, start: usize, end: usize, next: usize) -> Judged
     requires { ⌜ (start ≤ end) × (end + 4 ≤ next) × (next ≤ length (now s)) × (takes entry (part (now s) start end) ≡ true) ⌝ }
     ensures { λ r. ⌜ r ≡ comparedOf (now (s .entry)) entry start end next ⌝ }

@@ -28,7 +28,7 @@ pub(crate) fn size_at(s: &[u8], at: usize) -> usize
     load_u64(&s[at..end], 0) as usize
 }
 
-// Whether a sheet stands behind its length.
+// Whether a sheet stands after its length.
 fn holds_sheet(a: &[u8]) -> bool
     ensures { λ r. ⌜ r ≡ (leb 4 (length (now (a .entry))) && leb (le (take 4 (now (a .entry)))) (length (now (a .entry)) - 4)) ⌝ }
 {

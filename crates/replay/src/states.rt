@@ -96,7 +96,7 @@ fn flags(state: NameState) -> [u8; 32]
     )
 }
 
-// The owner's hash behind other bytes.
+// The owner's hash after other bytes.
 fn with_owner(first: [u8; 32], owner: Outpoint) -> [u8; 64]
     ensures { λ r. ⌜ r ≡ first ++ owner .«transaction_hash» .0 ⌝ }
 {

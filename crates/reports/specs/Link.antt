@@ -29,7 +29,8 @@ indexText k index = pick (leb 12 k && leb k 26) (atText ++ decimal index) []
 abbrev pub stoppedLine : ℕ → List ℕ → List ℕ
 stoppedLine k vs = refusedText ++ decimal k ++ indexText k (getD vs 0 0) ++ newline
 
--- "prints one line: inputs checked, linked outputs, name inputs", as in `links inputs=0 linked=0 names=0`; or the refusal
+-- "prints one line: inputs checked, linked outputs, name inputs", as in `links inputs=0 linked=0 names=0`; or the
+-- refusal
 abbrev pub saidLine : Said → List ℕ
 saidLine (summary inputs linked names) = inputsText ++ decimal inputs ++ linkedText ++ decimal linked ++ namesText ++ decimal names ++ newline
 saidLine (stopped k vs side) = stoppedLine k vs
@@ -42,8 +43,8 @@ abbrev pub judgedLine : {A : Type 0} → Judged A → List ℕ → List ℕ
 judgedLine (whole a) next = next
 judgedLine (refused k vs side) next = stoppedLine k vs
 
--- "`tx.sheet` and `coins.sheet` (each to 32,768 bytes, else 28 as that sheet's first check ..)": "The transaction sheet is judged whole, then the
--- coin sheet, then the links"
+-- "`tx.sheet` and `coins.sheet` (each to 32,768 bytes, else 28 as that sheet's first check ..)": "The transaction sheet
+-- is judged whole, then the coin sheet, then the links"
 unfoldable pub linkLine : List ℕ → List ℕ → List ℕ
 linkLine tx coins =
     pick (ltb 32768 (length tx)) (refusedLine 28)

@@ -1,5 +1,5 @@
--- A run of covenants, where each is told by its kind, how many items it has and the bytes used up: its steps and its end
--- are those of the run.
+-- A run of covenants, where each is told by its kind, how many items it has and the bytes used up: its steps and its
+-- end are those of the run.
 use mathlib.Core.Path.{_≡_, refl, ap}
 use Prim.Native.Nat.{ℕ, zero, suc, _^_, _<_}
 use native.Mathlib.Omega.{arith}
@@ -10,7 +10,7 @@ use lib.Dec.{eqb}
 use Rattle.words.specs.Buffers.{pick}
 use Rattle.refusal.specs.Outcome.{Outcome, ok, err}
 use Rattle.refusal.proofs.Outcomes.{then-ok}
-use Rattle.covenants.specs.Covenant.{Reading, Said, skimmed, covenantAt}
+use Rattle.covenants.specs.Covenant.{Reading, Skimmed, skimmed, covenantAt}
 use Rattle.covenants.proofs.Moves.{covenant-moves}
 use Rattle.runs.specs.Run.{End, ended, onward, runSaid, runAt, runOf, handed, last, advanced, stepAt}
 use Rattle.runs.specs.Covenants.{covenantRun}
@@ -18,11 +18,11 @@ use Rattle.runs.proofs.Steps.{apart}
 use Rattle.runs.proofs.Running.{Moving}
 
 -- a covenant, and what is told of it
-abbrev pub Told : Reading → Said
+abbrev pub Told : Reading → Skimmed
 Told c = (c .kind, length (c .items), c .used)
 
 module _ (limit : ℕ) (s : List ℕ) where
-  abbrev pub Skim : ℕ → Outcome Said
+  abbrev pub Skim : ℕ → Outcome Skimmed
   Skim p = skimmed (covenantAt limit s p)
 
   pub skim-moves : length s < 2 ^ 64 → Moving Skim s
@@ -60,7 +60,7 @@ module _ (limit : ℕ) (s : List ℕ) where
         go false (ok c p) h = absurd (apart refl h)
         go false (err k vs p) h = cc
 
-    pub skim-handed : {said : Said} {next : ℕ} → stepAt Skim s at ≡ handed said next → (c : Reading) × (Told c ≡ said) × (stepAt (covenantAt limit s) s at ≡ handed c next)
+    pub skim-handed : {said : Skimmed} {next : ℕ} → stepAt Skim s at ≡ handed said next → (c : Reading) × (Told c ≡ said) × (stepAt (covenantAt limit s) s at ≡ handed c next)
     unfolding stepAt
     skim-handed {said} {next} h = go (eqb at (length s)) (covenantAt limit s at) h
       where
@@ -69,6 +69,6 @@ module _ (limit : ℕ) (s : List ℕ) where
         go true o h = absurd (apart h refl)
         go false (ok c p) h =
             let place : p ≡ next = cc in
-            let says : _≡_ {A = Said} (c .kind, length (c .items), c .used) said = cc in
+            let says : _≡_ {A = Skimmed} (c .kind, length (c .items), c .used) said = cc in
             (c, says, ap (handed c) place)
         go false (err k vs p) h = absurd (apart h refl)

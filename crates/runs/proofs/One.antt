@@ -5,7 +5,7 @@ use mathlib.Core.List.{List}
 use Rattle.words.proofs.One.{one}
 use Rattle.runs.specs.Run.{runSaid}
 use Rattle.runs.specs.Covenants.{defaultAllowance, covenantRun, covenantStep}
-use Rattle.runs.specs.Paper.{stepPaper, runEndPaper, runStart}
+use Rattle.runs.specs.Paper.{runStepPaper, runEndPaper, runStart}
 use Rattle.runs.proofs.Same.{step-same, run-end-same}
 use Rattle.runs.specs.declared.Run.{Run}
 use Rattle.runs.specs.declared.Step.{Step}
@@ -15,12 +15,12 @@ pub start-one : {r r′ : Run} → r ≡ runStart → r′ ≡ runStart → r �
 start-one = one
 
 module _ (run : Run) (s : List ℕ) {r r′ : Step} where
-  pub next-one : stepPaper r ≡ covenantStep defaultAllowance s (run .cursor .position) (run .count)
-      → stepPaper r′ ≡ covenantStep defaultAllowance s (run .cursor .position) (run .count) → r ≡ r′
+  pub next-one : runStepPaper r ≡ covenantStep defaultAllowance s (run .cursor .position) (run .count)
+      → runStepPaper r′ ≡ covenantStep defaultAllowance s (run .cursor .position) (run .count) → r ≡ r′
   next-one e f = step-same (one e f)
 
-  pub next-with-limit-one : (limit : ℕ) → stepPaper r ≡ covenantStep limit s (run .cursor .position) (run .count)
-      → stepPaper r′ ≡ covenantStep limit s (run .cursor .position) (run .count) → r ≡ r′
+  pub next-with-limit-one : (limit : ℕ) → runStepPaper r ≡ covenantStep limit s (run .cursor .position) (run .count)
+      → runStepPaper r′ ≡ covenantStep limit s (run .cursor .position) (run .count) → r ≡ r′
   next-with-limit-one limit e f = step-same (one e f)
 
 module _ (s : List ℕ) {r r′ : RunEnd} where

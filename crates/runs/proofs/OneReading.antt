@@ -3,7 +3,8 @@ use mathlib.Core.Path.{refl, ap, ap₂, sym, _∙_}
 use native.Mathlib.Omega.{arith}
 use mathlib.Core.List.{[], _∷_, _++_, append-assoc}
 use lib.ListN.{length, length-append}
-use Rattle.runs.specs.OneReading.{joined, OneReading, PrefixFreeHasOneReading}
+use Rattle.encoding.specs.Joined.{joined}
+use Rattle.runs.specs.OneReading.{OneReading, PrefixFreeHasOneReading}
 
 pub one-reading : PrefixFreeHasOneReading
 unfolding joined

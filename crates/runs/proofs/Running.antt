@@ -5,7 +5,7 @@ use native.Mathlib.Omega.{arith}
 use mathlib.Core.List.{List, [], _∷_}
 use lib.ListN.{length}
 use Rattle.refusal.specs.Outcome.{Outcome, ok}
-use Rattle.runs.specs.Run.{End, Run, runSaid, runAt, runOf, Advance, handed, last, after, stepAt, stepOf}
+use Rattle.runs.specs.Run.{End, Run, runSaid, runAt, runOf, Advance, handed, last, countAfter, stepAt, stepOf}
 use Rattle.runs.proofs.Steps.{run-last, run-more}
 
 -- what is read takes a byte at least, and stays within
@@ -33,7 +33,7 @@ module _ {A : Type 0} (read : ℕ → Outcome A) (s : List ℕ) where
     pub finish : {e : End} {count′ : ℕ} → stepOf read s at count ≡ (last e, count′) → (e, count′) ≡ runSaid (runOf read s)
     finish {e} {count′} both =
         let h : stepAt read s at ≡ last e = ap (λ (x : Advance A × ℕ). x .0) both in
-        let c : after (stepAt read s at) count ≡ count′ = ap (λ (x : Advance A × ℕ). x .1) both in
+        let c : countAfter (stepAt read s at) count ≡ count′ = ap (λ (x : Advance A × ℕ). x .1) both in
         let run : runAt read (suc (length s) - count) s at ≡ record { read = []; end = e } = rw fuel (run-last read (length s - count) s at h) in
         let same : count ≡ count′ = (rw h at c) in
         let a : e ≡ (runOf read s) .end = sym (ap (λ (x : Run A). x .end) run) ∙ r .ends in
@@ -49,7 +49,7 @@ module _ {A : Type 0} (read : ℕ → Outcome A) (s : List ℕ) where
 
       pub more : Running read s next count′
       more =
-          let c : after (stepAt read s at) count ≡ count′ = ap (λ (x : Advance A × ℕ). x .1) both in
+          let c : countAfter (stepAt read s at) count ≡ count′ = ap (λ (x : Advance A × ℕ). x .1) both in
           let w = run-more read (length s - count) s at step in
           let m = moves in
           let next-count : (count + 1) % 2 ^ 64 ≡ count′ = (rw step at c) in

@@ -3,24 +3,24 @@ use mathlib.Core.Path.{_≡_, refl, ap}
 use Prim.Native.Nat.{ℕ}
 use Rattle.refusal.proofs.Same.{one-to-one, stop, stop-back}
 use Rattle.encoding.proofs.Same.{cursor}
-use Rattle.covenants.specs.Covenant.{Said}
+use Rattle.covenants.specs.Covenant.{Skimmed}
 use Rattle.runs.specs.Run.{End, ended, stopped, Advance, handed, last}
-use Rattle.runs.specs.Paper.{stepPaper, runEndPaper}
+use Rattle.runs.specs.Paper.{runStepPaper, runEndPaper}
 use Rattle.runs.specs.declared.Step.{Step}
 use Rattle.runs.specs.declared.RunEnd.{RunEnd}
 
-step-back : Advance Said × ℕ → Step
+step-back : Advance Skimmed × ℕ → Step
 step-back t = go (t .0)
   where
-    go : Advance Said → Step
+    go : Advance Skimmed → Step
     go (handed said next) = Step.Covenant (said .0) (said .1) (said .2) (record { cursor = cursor next; count = t .1 })
     go (last ended) = Step.Ended (t .1)
     go (last (stopped k vs p)) = Step.Refused (stop k vs p) (t .1)
 
-pub step-same : {r r′ : Step} → stepPaper r ≡ stepPaper r′ → r ≡ r′
+pub step-same : {r r′ : Step} → runStepPaper r ≡ runStepPaper r′ → r ≡ r′
 unfolding step-back
 step-same =
-    one-to-one stepPaper step-back
+    one-to-one runStepPaper step-back
     (elim [ Step.Covenant kind count used r ↦ refl | Step.Ended n ↦ refl | Step.Refused s n ↦ ap (λ x. Step.Refused x n) (stop-back s) ])
 
 run-end-back : End × ℕ → RunEnd

@@ -7,12 +7,12 @@ use lib.ListN.{length, take, drop, take-append-drop}
 use lib.Seq.{take-append-seam, take-append-le, drop-append-seam}
 use Rattle.words.proofs.Cases.{by-order}
 use Rattle.refusal.specs.Outcome.{ok}
-use Rattle.covenants.specs.Covenant.{Reading, Said, covenantAt, contents}
+use Rattle.covenants.specs.Covenant.{Reading, Skimmed, covenantAt, contents}
 use Rattle.covenants.specs.Written.{covenantSize}
 use Rattle.covenants.specs.Theorems.{Meant, written, Writable}
 use Rattle.covenants.proofs.Moves.{covenant-moves}
 use Rattle.covenants.proofs.Theorems.{size-is-length, covenant-reads-back}
-use Rattle.runs.specs.Run.{Advance, handed, after, stepAt}
+use Rattle.runs.specs.Run.{Advance, handed, countAfter, stepAt}
 use Rattle.runs.specs.Theorems.{CovenantsArePrefixFree, RunHasOneReading, StepsAreTheRun, CountNeverWraps}
 use Rattle.runs.proofs.Steps.{run-last, run-more}
 use Rattle.runs.proofs.Covenants.{Skim, skim-last, skim-handed}
@@ -64,10 +64,10 @@ run-has-one-reading = one-reading Meant Writable written covenants-are-prefix-fr
 
 pub steps-are-the-run : StepsAreTheRun
 steps-are-the-run n limit s at count = record {
-  ends = λ e. run-last (covenantAt limit s) n s at (skim-last limit s at (ap (λ (x : Advance Said × ℕ). x .0) e));
+  ends = λ e. run-last (covenantAt limit s) n s at (skim-last limit s at (ap (λ (x : Advance Skimmed × ℕ). x .0) e));
   goes =
       λ e.
-      let c = skim-handed limit s at (ap (λ (x : Advance Said × ℕ). x .0) e) in
+      let c = skim-handed limit s at (ap (λ (x : Advance Skimmed × ℕ). x .0) e) in
       let w = run-more (covenantAt limit s) n s at (c .2) in
       (c .0, w .here, c .1, w .run);
 }
@@ -81,8 +81,8 @@ count-never-wraps s (suc k) r big h =
     let limit = h .1 in
     let ih = count-never-wraps s k before big (h .5) in
     let both = sym (h .6) in
-    let step : stepAt (Skim limit s) s (before .cursor .position) ≡ handed (h .2, h .3, h .4) (r .cursor .position) = ap (λ (x : Advance Said × ℕ). x .0) both in
-    let c : after (stepAt (Skim limit s) s (before .cursor .position)) (before .count) ≡ r .count = ap (λ (x : Advance Said × ℕ). x .1) both in
+    let step : stepAt (Skim limit s) s (before .cursor .position) ≡ handed (h .2, h .3, h .4) (r .cursor .position) = ap (λ (x : Advance Skimmed × ℕ). x .0) both in
+    let c : countAfter (stepAt (Skim limit s) s (before .cursor .position)) (before .count) ≡ r .count = ap (λ (x : Advance Skimmed × ℕ). x .1) both in
     let counted : (before .count + 1) % 2 ^ 64 ≡ r .count = (rw step at c) in
     let w = skim-handed limit s (before .cursor .position) step in
     let m = covenant-moves limit s (before .cursor .position) (omega arith) (run-more (covenantAt limit s) zero s (before .cursor .position) (w .2) .here) in

@@ -52,9 +52,9 @@ advanced (ok a next) = handed a next
 advanced (err k vs p) = last (stopped k vs p)
 
 -- how many things there are after a step; the code's number is one of 64 bits
-abbrev pub after : {A : Type 0} → Advance A → ℕ → ℕ
-after (handed a next) count = (count + 1) % 2 ^ 64
-after (last end) count = count
+abbrev pub countAfter : {A : Type 0} → Advance A → ℕ → ℕ
+countAfter (handed a next) count = (count + 1) % 2 ^ 64
+countAfter (last end) count = count
 
 -- the step from a place on
 unfoldable pub stepAt : {A : Type 0} → (ℕ → Outcome A) → List ℕ → ℕ → Advance A
@@ -62,4 +62,4 @@ stepAt read s at = pick (eqb at (length s)) (last ended) (advanced (read at))
 
 -- and how many things there are after it, where there were so many before
 abbrev pub stepOf : {A : Type 0} → (ℕ → Outcome A) → List ℕ → ℕ → ℕ → Advance A × ℕ
-stepOf read s at count = (stepAt read s at, after (stepAt read s at) count)
+stepOf read s at count = (stepAt read s at, countAfter (stepAt read s at) count)

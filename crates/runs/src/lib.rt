@@ -8,7 +8,7 @@ use refusal::Stop;
 ghost use mathlib.Core.Path.{_≡_};
 ghost use Rattle.runs.specs.Run.{runSaid};
 ghost use Rattle.runs.specs.Covenants.{defaultAllowance, covenantRun, covenantStep};
-ghost use Rattle.runs.specs.Paper.{stepPaper, runEndPaper, runStart};
+ghost use Rattle.runs.specs.Paper.{runStepPaper, runEndPaper, runStart};
 
 // A place in a run, and how many covenants came before it.
 pub struct Run {
@@ -51,14 +51,14 @@ impl Run {
 
     // The next covenant, or the end.
     pub fn next(self, s: &[u8]) -> Step
-        ensures { λ r. ⌜ stepPaper r ≡ covenantStep defaultAllowance (now (s .entry)) (self .cursor .position) (self .count) ⌝ }
+        ensures { λ r. ⌜ runStepPaper r ≡ covenantStep defaultAllowance (now (s .entry)) (self .cursor .position) (self .count) ⌝ }
     {
         self.next_with_limit(s, Run::ALLOWANCE)
     }
 
     // The same under an allowance that the caller names.
     pub fn next_with_limit(self, s: &[u8], limit: usize) -> Step
-        ensures { λ r. ⌜ stepPaper r ≡ covenantStep limit (now (s .entry)) (self .cursor .position) (self .count) ⌝ }
+        ensures { λ r. ⌜ runStepPaper r ≡ covenantStep limit (now (s .entry)) (self .cursor .position) (self .count) ⌝ }
     {
         let cursor = self.cursor;
         if cursor.position == s.len() {

@@ -8,11 +8,11 @@ use Rattle.primitives.specs.Outpoints.{sameOutpoint, isNull}
 use Rattle.covenants.specs.Covenant.{allowed, itemAt, headAt, opening, bodyAt, covenantAt, wholeCovenant}
 use Rattle.name_state.specs.State.{null, bitmap, binding}
 use Rattle.name_state_codec.specs.Written.{textsBytes, numbersBytes, heldBytes, timesBytes, recordWith, stateBytes}
-use Rattle.name_state_codec.specs.Read.{upTo, textAt, textsAt, numbersAt, ownerAt, amountAt, amountsAt, heldAt, timesAt, gathered, optionalAt, fieldsAt, judged, readState}
+use Rattle.name_state_codec.specs.Read.{upTo, textAt, textsAt, numbersAt, ownerAt, amountAt, amountsAt, heldAt, timesAt, gathered, optionalAt, fieldsAt, judgedState, readState}
 use Rattle.samples.specs.Table.{SampleTable}
 
 pub sample-table : SampleTable
-unfolding le bytes remainingAt inside sliceAt bytesAt fixedAt canonical compact compactAt most compactMost finishAt manyAt allowed itemAt headAt opening bodyAt covenantAt wholeCovenant same sameOutpoint isNull null binding bitmap textsBytes numbersBytes heldBytes timesBytes recordWith stateBytes upTo textAt textsAt numbersAt ownerAt amountAt amountsAt heldAt timesAt gathered optionalAt fieldsAt judged readState
+unfolding le bytes remainingAt inside sliceAt bytesAt fixedAt canonical compact compactAt most compactMost finishAt manyAt allowed itemAt headAt opening bodyAt covenantAt wholeCovenant same sameOutpoint isNull null binding bitmap textsBytes numbersBytes heldBytes timesBytes recordWith stateBytes upTo textAt textsAt numbersAt ownerAt amountAt amountsAt heldAt timesAt gathered optionalAt fieldsAt judgedState readState
 sample-table =
     record {
       size-252 = refl;

@@ -1,5 +1,5 @@
--- Document 01's sample table: "The P lines are proved from the rules as one table under one theorem". The rules are the definitions that the contracts
--- of the readers and writers cite; the theorem is `sample-table` in proofs/Table.antt.
+-- Document 01's sample table: "The P lines are proved from the rules as one table under one theorem". The rules are the
+-- definitions that the contracts of the readers and writers cite; the theorem is `sample-table` in proofs/Table.antt.
 use mathlib.Core.Path.{_≡_}
 use Prim.Native.Nat.{ℕ}
 use mathlib.Core.List.{List, [], _∷_, _++_}

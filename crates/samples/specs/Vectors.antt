@@ -20,7 +20,8 @@ headOf Function.Sha3 = 0x73726f7463657601
 headOf Function.Blake2b = 0x73726f7463657602
 headOf Function.ValueNonce = 0x73726f7463657603
 
--- what a function answers on a message; a value and a nonce are the message of the value's eight bytes and the nonce's 32
+-- what a function answers on a message; a value and a nonce are the message of the value's eight bytes and the nonce's
+-- 32
 abbrev pub hashOf : Function → List ℕ → List ℕ
 hashOf Function.Sha3 m = sha3 m
 hashOf Function.Blake2b m = blake2b m

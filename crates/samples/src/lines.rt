@@ -90,7 +90,8 @@ fn is_kept(dest: &[u8], start: usize, source: &[u8]) -> bool
     same_bytes(source, &dest[start..end])
 }
 
-// "Three items of 1,000,000, 0, 0 fill 1,000,009". The first stands after the kind, the count and a length of five bytes.
+// "Three items of 1,000,000, 0, 0 fill 1,000,009". The first stands after the kind, the count and a length of five
+// bytes.
 fn run_three(dest: &mut [u8; 1000010], source: &[u8; 1000000]) {
     let first = Cursor { position: 0 };
     tell(b"three items of 1000000, 0 and 0: ");
@@ -99,7 +100,8 @@ fn run_three(dest: &mut [u8; 1000010], source: &[u8; 1000000]) {
     tell_kept(is_kept(dest, 7, source));
 }
 
-// "a fourth empty item is 5": to the writer, and to the reader of the three items under the count 4, with one zero byte more.
+// "a fourth empty item is 5": to the writer, and to the reader of the three items under the count 4, with one zero byte
+// more.
 fn run_four(dest: &mut [u8; 1000010], source: &[u8; 1000000]) {
     let first = Cursor { position: 0 };
     tell(b"a fourth empty item: ");

@@ -1,4 +1,5 @@
-// Runs hash vectors and compares: the published ones, and those that an independent tool made. Then runs document 01's sample lines, and the item viewer.
+// Runs hash vectors and compares: the published ones, and those that an independent tool made. Then runs document 01's
+// sample lines, and the item viewer.
 mod compare;
 mod lines;
 mod vectors;
@@ -49,7 +50,7 @@ fn refuse(name: &[u8], number: u64) {
     );
 }
 
-// Whether a file begins with its function's head, and has a count behind it.
+// Whether a file begins with its function's head, and has a count after it.
 fn is_headed(f: Function, s: &[u8]) -> bool
     ensures { λ r. ⌜ r ≡ (leb 16 (length (now (s .entry))) && eqb (le (take 8 (now (s .entry)))) (headOf f)) ⌝ }
 {

@@ -1,5 +1,6 @@
--- The round constants of a table are those of FIPS 202's rule: one test, which antt computes over the table. The register of Algorithm 5 is shifted
--- along with the table, seven turns for each round, so that no turn is computed twice for the next round.
+-- The round constants of a table are those of FIPS 202's rule: one test, which antt computes over the table. The
+-- register of Algorithm 5 is shifted along with the table, seven turns for each round, so that no turn is computed
+-- twice for the next round.
 use mathlib.Core.Path.{_≡_, refl, ap, ap₂, subst, sym, _∙_}
 use mathlib.Core.List.{List, [], _∷_}
 use mathlib.Core.Bool.{Bool, true}

@@ -75,7 +75,8 @@ close-block l (suc q) h =
     rw (f, set-at p 0 [] (bitOr (getD (p ++ 0 ∷ []) 135 0) 128) 135 e, getD-at p 0 [] 0 135 e)
     (append-assoc l (6 ∷ replicate q 0) (0x80 ∷ []))
 
--- what is left of the message after whole blocks, laid over zeros and closed, is what is left of the paddedMessage message
+-- what is left of the message after whole blocks, laid over zeros and closed, is what is left of the paddedMessage
+-- message
 pub last-bits :
     (m : List ℕ) (at : ℕ) (l b : List ℕ) → at % 136 ≡ 0 → at ≤ length m → length m < at + 136 → l ≡ drop at m → b ≡ laid 0 l (replicate 136 0) →
     bitsOf 8 (set (set b (length m - at) 6) 135 (bitOr (getD (set b (length m - at) 6) 135 0) 128)) ≡ drop (8 * at) (paddedMessage m)

@@ -1,5 +1,6 @@
 -- FIPS 202, section 3: the permutation KECCAK-p[1600, 24], on lanes of w = 64 bits (l = 6).
--- The convention (3.1.2): A[x, y, z] is the bit of weight 2 ^ z of lane (x, y); a state is the list of its 25 lanes, lane (x, y) at 5 y + x.
+-- The convention (3.1.2): A[x, y, z] is the bit of weight 2 ^ z of lane (x, y); a state is the list of its 25 lanes,
+-- lane (x, y) at 5 y + x.
 -- So lane (x, y) is the bits 64 (5 y + x) to 64 (5 y + x) + 63 of the string S, the lowest first.
 use Prim.Native.Nat.{ℕ, zero, suc, _+_, _-_, _*_, _/_, _%_, _^_}
 use mathlib.Core.List.{List, [], _∷_, _++_}
@@ -75,7 +76,8 @@ register (suc t) = shifted (register t)
 unfoldable pub rc : ℕ → ℕ
 rc t = getD (register (t % 255)) 0 0
 
--- 3.2.5, Algorithm 6, ι. Steps 2 and 3: constantUpTo n i is RC with RC[2 ^ j - 1] = rc(j + 7 i) for each j below n, and 0 in its other bits
+-- 3.2.5, Algorithm 6, ι. Steps 2 and 3: constantUpTo n i is RC with RC[2 ^ j - 1] = rc(j + 7 i) for each j below n, and
+-- 0 in its other bits
 unfoldable pub constantUpTo : ℕ → ℕ → ℕ
 constantUpTo zero i = 0
 constantUpTo (suc j) i = constantUpTo j i + rc (j + 7 * i) * 2 ^ (2 ^ j - 1)

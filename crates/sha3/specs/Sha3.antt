@@ -1,4 +1,5 @@
--- FIPS 202, sections 4 to 6: SHA3-256, on strings of bits. A bit is 0 or 1, a string of bits is the list of them, and a message is the list of its bytes.
+-- FIPS 202, sections 4 to 6: SHA3-256, on strings of bits. A bit is 0 or 1, a string of bits is the list of them, and a
+-- message is the list of its bytes.
 use Prim.Native.Nat.{ℕ, zero, suc, _+_, _-_, _*_, _/_, _%_}
 use mathlib.Core.List.{List, [], _∷_, _++_}
 use lib.Bits.{bitXor}
@@ -48,7 +49,8 @@ unfoldable pub absorbed : (List ℕ → List ℕ) → ℕ → ℕ → List ℕ �
 absorbed f r zero s p = s
 absorbed f r (suc n) s p = absorbed f r n (block f r s p) (drop r p)
 
--- Steps 2 and 5: all n = len(P) / r strings, from S = 0^1600 on. Steps 7 to 9: Trunc_d(S), where d is at most r, so that step 9 returns at its first turn
+-- Steps 2 and 5: all n = len(P) / r strings, from S = 0^1600 on. Steps 7 to 9: Trunc_d(S), where d is at most r, so
+-- that step 9 returns at its first turn
 unfoldable pub sponge : (List ℕ → List ℕ) → (ℕ → ℕ → List ℕ) → ℕ → List ℕ → ℕ → List ℕ
 sponge f pad r n d =
     let p : List ℕ = padded pad r n in

@@ -12,8 +12,8 @@ use words::load::load_u64;
 use words::store::put_bytes;
 use words::store::words_bytes;
 
-// The state with the lanes of a block taken in, each as it is loaded: the 136 bytes from `at` on. They are lent as a part of their own, so that its length is
-// known, and no load has to test for the end.
+// The state with the lanes of a block taken in, each as it is loaded: the 136 bytes from `at` on. They are lent as a
+// part of their own, so that its length is known, and no load has to test for the end.
 fn mix(s: [u64; 25], m: &[u8], at: usize) -> [u64; 25]
     requires { ⌜ at + 136 ≤ length (now m) ⌝ }
     ensures { λ r. ⌜ r ≡ mixed s (lanes 17 (drop at (now (m .entry)))) ⌝ }

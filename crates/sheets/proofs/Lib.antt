@@ -1,4 +1,3 @@
-pub mod Spelling
 pub mod Reading
 pub mod Whole
 pub mod Counts

@@ -35,7 +35,8 @@ judge-pair-one tx coins e f = pair-same (one e f)
 pub gap-of-one : (version : ℕ) {r r′ : ℕ} → r ≡ gap version → r′ ≡ gap version → r ≡ r′
 gap-of-one version = one
 
--- a lent slice is its bytes and where they lie; what else its record has, a ghost name, is no part of the value that is handed back
+-- a lent slice is its bytes and where they lie; what else its record has, a ghost name, is no part of the value that is
+-- handed back
 module _ (tx coins : RefT (List ℕ)) (side index item : ℕ) where
   abbrev Says : RefT (List ℕ) → Type 0
   Says r =

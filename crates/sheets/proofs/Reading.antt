@@ -6,38 +6,39 @@ use mathlib.Core.List.{List, List·Memᴰ}
 use mathlib.Core.Bool.{Bool, true, false}
 use lib.ListN.{length, take, drop, getD}
 use lib.Dec.{eqb}
+use Rattle.words.specs.Words.{be}
 use Rattle.refusal.proofs.Many.{many-somewhere}
 use Rattle.refusal.specs.Outcome.{Stand, Outcome, ok, err, then, past, manyAt}
 use Rattle.refusal.proofs.Outcomes.{then-ok, never, past-next, past-cut}
 use Rattle.encoding.specs.Wire.{sliceAt, bytesAt}
-use Rattle.encoding.specs.Paper.{arrayPaper, shown}
+use Rattle.encoding.specs.Paper.{arrayPaper, shownBytes}
 use Rattle.encoding.specs.declared.read.ReadArray.{ReadArray}
 use Rattle.encoding.proofs.Slice as slice
-use Rattle.covenants.specs.Covenant.{Reading, Said, covenantAt, skimmed, bytesIn}
+use Rattle.covenants.specs.Covenant.{Reading, Skimmed, covenantAt, skimmed, bytesIn}
 use Rattle.covenants.proofs.Moves.{covenant-moves}
 use Rattle.primitives.specs.declared.Outpoint.{Outpoint}
-use Rattle.sheets.specs.Sheet.{be, field, inputAt, placeBodyAt, placeAt, gap, coinAt}
+use Rattle.sheets.specs.Sheet.{field, inputAt, placeBodyAt, placeAt, gap, coinAt}
 use Rattle.sheets.specs.Workers.{coinOutput}
 use Rattle.sheets.specs.declared.Place.{Place}
 
 -- bytes that are there, as an array hands them out
-pub array-inside : (n : ℕ) (s : List ℕ) (at : ℕ) (r : ReadArray) → at + n ≤ length s → at + n < 2 ^ 64 → arrayPaper r ≡ shown n (bytesAt n s at) → r .bytes ≡ take n (drop at s)
+pub array-inside : (n : ℕ) (s : List ℕ) (at : ℕ) (r : ReadArray) → at + n ≤ length s → at + n < 2 ^ 64 → arrayPaper r ≡ shownBytes n (bytesAt n s at) → r .bytes ≡ take n (drop at s)
 unfolding bytesAt
 array-inside n s at r h big e = let w = slice.within n s at big h in ap (λ (t : Outcome Unit × List ℕ). t .1) (rw w at e)
 
--- a hash, and what is said of the covenant behind it
+-- a hash, and what is said of the covenant after it
 module _ (value version size : ℕ) (s : List ℕ) (at : ℕ) {part : ℕ × ℕ} {covenant : ℕ} (hash : sliceAt size s at ≡ ok part covenant) where
-  placed : (o : Outcome Reading) {said : Said} {end : ℕ} → covenantAt 1000009 s covenant ≡ o → skimmed o ≡ ok said end
+  placed : (o : Outcome Reading) {said : Skimmed} {end : ℕ} → covenantAt 1000009 s covenant ≡ o → skimmed o ≡ ok said end
       → placeBodyAt value version size s at ≡ ok (record { value = record { 0 = value }; address = record { version = version; start = part .0; len = part .1 }; covenant = covenant; kind = said .0 }) end
   unfolding placeBodyAt
   placed (ok c p) {said} {end} e f =
       let q : p ≡ end = cc in
-      let same : _≡_ {A = Said} (c .kind, length (c .items), c .used) said = cc in
-      let kind : c .kind ≡ said .0 = ap (λ (x : Said). x .0) same in
+      let same : _≡_ {A = Skimmed} (c .kind, length (c .items), c .used) said = cc in
+      let kind : c .kind ≡ said .0 = ap (λ (x : Skimmed). x .0) same in
       rw (hash, e, q, kind)
   placed (err k vs p) e f = absurd (never f refl)
 
-  pub body-placed : {said : Said} {end : ℕ} → skimmed (covenantAt 1000009 s covenant) ≡ ok said end
+  pub body-placed : {said : Skimmed} {end : ℕ} → skimmed (covenantAt 1000009 s covenant) ≡ ok said end
       → placeBodyAt value version size s at ≡ ok (record { value = record { 0 = value }; address = record { version = version; start = part .0; len = part .1 }; covenant = covenant; kind = said .0 }) end
   body-placed f = placed (covenantAt 1000009 s covenant) refl f
 
@@ -59,7 +60,7 @@ module _ (version : ℕ) (s : List ℕ) (at : ℕ) where
       let stands : w .1 + gap version ≡ next = cc in
       past-next (inputAt s at) (λ next. placeAt 1 s (next + gap version)) (λ outpoint place. (outpoint, place)) (w .2) ∙ ap (λ (n : ℕ). past (placeAt 1 s n)) stands
 
-  -- nothing behind the outpoint is refused
+  -- nothing after the outpoint is refused
   only-outpoint : (o : Outcome Unit) {k : ℕ} {vs : List ℕ} {p : Stand} → _≡_ {A = Outcome Unit} (then o (λ nothing next. ok tt (next + gap version))) (err k vs p) → o ≡ err k vs p
   only-outpoint (ok u next) e = absurd (never refl e)
   only-outpoint (err k vs p) e = e
@@ -122,7 +123,7 @@ module _ (s : List ℕ) (big : length s < 2 ^ 64) where
       let w = many-somewhere (placeAt side s) n from e m in
       (w .0, w .1, place-read side (w .0) (w .2))
 
--- a coin that was read: its outpoint, and its output behind it
+-- a coin that was read: its outpoint, and its output after it
 pub record CoinRead (version : ℕ) (s : List ℕ) (at : ℕ) (c : Outpoint × Place) (next : ℕ) : Type 0 where
   pub middle : ℕ
   pub outpoint : inputAt s at ≡ ok (c .0) middle

@@ -6,7 +6,7 @@ use Rattle.refusal.proofs.Same.{one-to-one, refusal, refusal-back, stop, stop-b
 use Rattle.encoding.proofs.Same.{cursor}
 use Rattle.sheets.specs.Sheet.{Head, Judged, whole, refused}
 use Rattle.sheets.specs.Viewer as viewer
-use Rattle.sheets.specs.Paper.{placePaper, headPaper, sheetPaper, pairPaper, viewPaper}
+use Rattle.sheets.specs.Paper.{placePaper, sheetHeadPaper, sheetPaper, pairPaper, viewPaper}
 use Rattle.sheets.specs.declared.Place.{Place}
 use Rattle.sheets.specs.declared.ReadPlace.{ReadPlace}
 use Rattle.sheets.specs.declared.ReadHead.{ReadHead}
@@ -26,9 +26,9 @@ head-back : Outcome Head → ReadHead
 head-back (ok head next) = ReadHead.Counts (head .version) (head .counts .0) (head .counts .1) (cursor next)
 head-back (err k vs p) = ReadHead.Refused (stop k vs p)
 
-pub head-same : {r r′ : ReadHead} → headPaper r ≡ headPaper r′ → r ≡ r′
+pub head-same : {r r′ : ReadHead} → sheetHeadPaper r ≡ sheetHeadPaper r′ → r ≡ r′
 unfolding head-back
-head-same = one-to-one headPaper head-back (elim [ ReadHead.Counts v a b c ↦ refl | ReadHead.Refused s ↦ ap ReadHead.Refused (stop-back s) ])
+head-same = one-to-one sheetHeadPaper head-back (elim [ ReadHead.Counts v a b c ↦ refl | ReadHead.Refused s ↦ ap ReadHead.Refused (stop-back s) ])
 
 sheet-back : Judged (ℕ × ℕ) → SheetRead
 sheet-back (whole counts) = SheetRead.Counts (counts .0) (counts .1)

@@ -4,6 +4,7 @@ use Prim.Native.Nat.{ℕ, zero, suc, _+_, _^_, _≤_, _<_}
 use native.Mathlib.Omega.{arith}
 use mathlib.Core.List.{List, [], _∷_, _++_, map, map-append}
 use mathlib.Core.Bool.{Bool, true, false}
+use mathlib.Core.Option.{Option, some, none}
 use lib.ListN.{length, length-map}
 use lib.Dec.{eqb}
 use Rattle.covenants.proofs.Agree.{seek-finds, nth-inside}
@@ -12,22 +13,21 @@ use Rattle.refusal.specs.Outcome.{Stand, Outcome, ok, err, then, past}
 use Rattle.refusal.proofs.Many.{many-long, many-member}
 use Rattle.primitives.specs.declared.Outpoint.{Outpoint}
 use Rattle.covenants.specs.Covenant.{Reading, covenantAt}
-use Rattle.covenants.specs.Items.{Maybe, there, absent}
 use Rattle.sheets.specs.declared.Place.{Place}
 use Rattle.sheets.specs.Sheet.{placeAt, gap, coinAt, ledgerAt, transactionAt, coinsAt, whole, refused, transactionCounts, coinCounts, pairCounts}
 use Rattle.sheets.specs.Viewer.{View, inTransaction, inCoins, nowhere, recordOf, itemIn, itemOfPlace, viewed, viewIn, viewOf}
-use Rattle.sheets.specs.Workers.{placesOf, coinPlacesOf, itemAfter, itemBehind, coinOutput, coinStart}
+use Rattle.sheets.specs.Workers.{placesOf, coinPlacesOf, itemRead, itemAfter, coinOutput, coinStart}
 use Rattle.sheets.proofs.Reading.{place-read, coin-read}
 use Rattle.sheets.proofs.Whole.{ledger-next, transaction-is, coins-are, judged-refused, pair-refused}
 
 -- ---- a record of a list of places
 
--- the record behind so many others; and none behind all
-record-front : (front : List Place) (p : Place) (back : List Place) → recordOf (front ++ (p ∷ back)) (length front) ≡ there p
+-- the record after so many others; and none after all
+record-front : (front : List Place) (p : Place) (back : List Place) → recordOf (front ++ (p ∷ back)) (length front) ≡ some p
 record-front [] p back = refl
 record-front (q ∷ front) p back = record-front front p back
 
-record-none : (ps : List Place) (k : ℕ) → length ps ≤ k → recordOf ps k ≡ absent
+record-none : (ps : List Place) (k : ℕ) → length ps ≤ k → recordOf ps k ≡ none
 record-none [] k h = refl
 record-none (p ∷ ps) zero h = absurd (omega arith)
 record-none (p ∷ ps) (suc k) h = record-none ps k (omega arith)
@@ -35,54 +35,54 @@ record-none (p ∷ ps) (suc k) h = record-none ps k (omega arith)
 abbrev second : Outpoint × Place → Place
 second c = c .1
 
-apart : {A : Type 0} {a : A} → absent ≡ there a → ⊥
+apart : {A : Type 0} {a : A} → none ≡ some a → ⊥
 apart e = let z : _≡_ {A = ℕ} 0 1 = cc in omega arith
 
 -- ---- the item of a record
 
 module _ (s : List ℕ) (big : length s < 2 ^ 64) where
-  item-after : (side at : ℕ) {p : Place} {next : ℕ} (item : ℕ) → placeAt side s at ≡ ok p next → itemAfter s (placeAt side s at) item ≡ itemOfPlace s (there p) item
-  item-after side at {p} item e =
+  item-of-read : (side at : ℕ) {p : Place} {next : ℕ} (item : ℕ) → placeAt side s at ≡ ok p next → itemRead s (placeAt side s at) item ≡ itemOfPlace s (some p) item
+  item-of-read side at {p} item e =
       let w = place-read s big side at e in
-      ap (λ o. itemAfter s o item) e ∙ seek-finds s (p .covenant) item (w .covenant) ∙ sym (ap (λ o. itemIn o item) (w .covenant))
+      ap (λ o. itemRead s o item) e ∙ seek-finds s (p .covenant) item (w .covenant) ∙ sym (ap (λ o. itemIn o item) (w .covenant))
 
   -- ---- an output's
 
   module _ {counts : ℕ × ℕ} (counted : transactionCounts s ≡ whole counts) (k item : ℕ) where
-    abbrev OutputItem : Maybe (ℕ × ℕ)
+    abbrev OutputItem : Option (ℕ × ℕ)
     OutputItem = itemOfPlace s (recordOf (placesOf (transactionAt s)) k) item
 
-    pub output-none : counts .1 ≤ k → absent ≡ OutputItem
+    pub output-none : counts .1 ≤ k → none ≡ OutputItem
     output-none h =
         let t = transaction-is s counted in
         let long = many-long (placeAt 0 s) (counts .1) (t .middle) (t .outputs) in
-        let none : recordOf (t .lists .1) k ≡ absent = record-none (t .lists .1) k (omega arith) in
-        sym (ap (λ o. itemOfPlace s (recordOf (placesOf o) k) item) (t .read .1) ∙ ap (λ r. itemOfPlace s r item) none)
+        let missing : recordOf (t .lists .1) k ≡ none = record-none (t .lists .1) k (omega arith) in
+        sym (ap (λ o. itemOfPlace s (recordOf (placesOf o) k) item) (t .read .1) ∙ ap (λ r. itemOfPlace s r item) missing)
 
-    pub output-there : k < counts .1 → itemBehind 0 s (past (ledgerAt s (counts .0, k) 4)) item ≡ OutputItem
+    pub output-there : k < counts .1 → itemAfter 0 s (past (ledgerAt s (counts .0, k) 4)) item ≡ OutputItem
     output-there h =
         let t = transaction-is s counted in
         let m = many-member (placeAt 0 s) k (counts .1) (t .middle) h (t .outputs) in
         let long = many-long (placeAt 0 s) k (t .middle) (m .before) in
-        let is : recordOf (t .lists .1) k ≡ there (m .item) = ap₂ recordOf (m .split) (sym long) ∙ record-front (m .front) (m .item) (m .back) in
+        let is : recordOf (t .lists .1) k ≡ some (m .item) = ap₂ recordOf (m .split) (sym long) ∙ record-front (m .front) (m .item) (m .back) in
         let way : past (ledgerAt s (counts .0, k) 4) ≡ ok tt (m .start) = ledger-next s (counts .0, k) 4 (ap past (t .inputs)) ∙ ap past (m .before) in
-        ap (λ o. itemBehind 0 s o item) way ∙ item-after 0 (m .start) item (m .here)
+        ap (λ o. itemAfter 0 s o item) way ∙ item-of-read 0 (m .start) item (m .here)
         ∙ sym (ap (λ o. itemOfPlace s (recordOf (placesOf o) k) item) (t .read .1) ∙ ap (λ r. itemOfPlace s r item) is)
 
   -- ---- a coin's
 
   module _ {counts : ℕ × ℕ} (counted : coinCounts s ≡ whole counts) (k item : ℕ) where
-    abbrev CoinItem : Maybe (ℕ × ℕ)
+    abbrev CoinItem : Option (ℕ × ℕ)
     CoinItem = itemOfPlace s (recordOf (coinPlacesOf (coinsAt s)) k) item
 
-    pub coin-none : counts .0 ≤ k → absent ≡ CoinItem
+    pub coin-none : counts .0 ≤ k → none ≡ CoinItem
     coin-none h =
         let t = coins-are s counted in
         let long = many-long (coinAt 1 s) (counts .0) 4 (t .coins) in
-        let none : recordOf (map second (t .list)) k ≡ absent = record-none (map second (t .list)) k (omega (arith, length-map (t .list) second)) in
-        sym (ap (λ o. itemOfPlace s (recordOf (coinPlacesOf o) k) item) (t .read .1) ∙ ap (λ r. itemOfPlace s r item) none)
+        let missing : recordOf (map second (t .list)) k ≡ none = record-none (map second (t .list)) k (omega (arith, length-map (t .list) second)) in
+        sym (ap (λ o. itemOfPlace s (recordOf (coinPlacesOf o) k) item) (t .read .1) ∙ ap (λ r. itemOfPlace s r item) missing)
 
-    pub coin-there : k < counts .0 → itemBehind 1 s (coinStart 1 s k 4) item ≡ CoinItem
+    pub coin-there : k < counts .0 → itemAfter 1 s (coinStart 1 s k 4) item ≡ CoinItem
     unfolding coinStart coinOutput
     coin-there h =
         let t = coins-are s counted in
@@ -90,17 +90,17 @@ module _ (s : List ℕ) (big : length s < 2 ^ 64) where
         let c = coin-read 1 s (m .start) (m .here) in
         let long : length (map second (m .front)) ≡ k = length-map (m .front) second ∙ many-long (coinAt 1 s) k 4 (m .before) in
         let split : map second (t .list) ≡ map second (m .front) ++ (m .item .1 ∷ map second (m .back)) = ap (map second) (m .split) ∙ map-append second (m .front) (m .item ∷ m .back) in
-        let is : recordOf (map second (t .list)) k ≡ there (m .item .1) = ap₂ recordOf split (sym long) ∙ record-front (map second (m .front)) (m .item .1) (map second (m .back)) in
+        let is : recordOf (map second (t .list)) k ≡ some (m .item .1) = ap₂ recordOf split (sym long) ∙ record-front (map second (m .front)) (m .item .1) (map second (m .back)) in
         let way : coinStart 1 s k 4 ≡ ok tt (c .middle + gap 1) = ap (λ o. then (past o) (λ nothing next. coinOutput 1 s next)) (m .before) ∙ ap (λ o. then (past o) (λ nothing next. ok tt (next + gap 1))) (c .outpoint) in
-        ap (λ o. itemBehind 1 s o item) way ∙ item-after 1 (c .middle + gap 1) item (c .output)
+        ap (λ o. itemAfter 1 s o item) way ∙ item-of-read 1 (c .middle + gap 1) item (c .output)
         ∙ sym (ap (λ o. itemOfPlace s (recordOf (coinPlacesOf o) k) item) (t .read .1) ∙ ap (λ r. itemOfPlace s r item) is)
 
   -- an item lies within
-  item-inside : (r : Maybe Place) (item : ℕ) {part : ℕ × ℕ} → itemOfPlace s r item ≡ there part → part .0 + part .1 ≤ length s
-  item-inside absent item e = absurd (apart e)
-  item-inside (there p) item {part} e = go (covenantAt 1000009 s (p .covenant)) refl e
+  item-inside : (r : Option Place) (item : ℕ) {part : ℕ × ℕ} → itemOfPlace s r item ≡ some part → part .0 + part .1 ≤ length s
+  item-inside none item e = absurd (apart e)
+  item-inside (some p) item {part} e = go (covenantAt 1000009 s (p .covenant)) refl e
     where
-      go : (o : Outcome Reading) → covenantAt 1000009 s (p .covenant) ≡ o → itemIn o item ≡ there part → part .0 + part .1 ≤ length s
+      go : (o : Outcome Reading) → covenantAt 1000009 s (p .covenant) ≡ o → itemIn o item ≡ some part → part .0 + part .1 ≤ length s
       go (ok c next) f e = nth-inside s (p .covenant) item big f e
       go (err k vs q) f e = absurd (apart e)
 
@@ -144,13 +144,13 @@ module _ (tx coins : List ℕ) (side k item : ℕ) where
   view-no-pair e = pair-refused tx coins e view-no-transaction (λ counts f. view-no-coins)
 
   module _ (big : length tx < 2 ^ 64) (large : length coins < 2 ^ 64) where
-    in-transaction : (m : Maybe (ℕ × ℕ)) → ((part : ℕ × ℕ) → m ≡ there part → part .0 + part .1 ≤ length tx) → Inside tx coins (viewed inTransaction m)
-    in-transaction absent h = tt
-    in-transaction (there part) h = h part refl
+    in-transaction : (m : Option (ℕ × ℕ)) → ((part : ℕ × ℕ) → m ≡ some part → part .0 + part .1 ≤ length tx) → Inside tx coins (viewed inTransaction m)
+    in-transaction none h = tt
+    in-transaction (some part) h = h part refl
 
-    in-coins : (m : Maybe (ℕ × ℕ)) → ((part : ℕ × ℕ) → m ≡ there part → part .0 + part .1 ≤ length coins) → Inside tx coins (viewed inCoins m)
-    in-coins absent h = tt
-    in-coins (there part) h = h part refl
+    in-coins : (m : Option (ℕ × ℕ)) → ((part : ℕ × ℕ) → m ≡ some part → part .0 + part .1 ≤ length coins) → Inside tx coins (viewed inCoins m)
+    in-coins none h = tt
+    in-coins (some part) h = h part refl
 
     on-side : (a b : Bool) (v w : View) → Inside tx coins v → Inside tx coins w → Inside tx coins (pick a v (pick b w nowhere))
     on-side true b v w h g = h

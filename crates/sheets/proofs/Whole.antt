@@ -7,6 +7,7 @@ use mathlib.Core.Bool.{true}
 use lib.ListN.{length}
 use lib.Dec.{ltb, eqb}
 use borrow.Author.Tests.{le-ltb, lt-ltb, ltb-false, eqb-true}
+use Rattle.words.specs.Words.{be}
 use Rattle.refusal.specs.Outcome.{Stand, Outcome, ok, err, then, manyAt, past}
 use Rattle.refusal.proofs.Outcomes.{then-ok, passed, past-ok, past-next, past-cut}
 use Rattle.refusal.proofs.Many.{many-long}
@@ -15,7 +16,7 @@ use Rattle.encoding.specs.Wire.{sliceAt, finishAt}
 use Rattle.encoding.proofs.Slice as slice
 use Rattle.covenants.specs.Covenant.{bytesIn}
 use Rattle.primitives.specs.declared.Outpoint.{Outpoint}
-use Rattle.sheets.specs.Sheet.{Head, be, field, headFields, sheetHeadAt, inputAt, placeAt, coinAt, sheetAt, ledgerAt, transactionAt, coinsAt, Judged, whole, refused, judged, transactionCounts, coinCounts, both, pairCounts}
+use Rattle.sheets.specs.Sheet.{Head, field, headFields, sheetHeadAt, inputAt, placeAt, coinAt, sheetAt, ledgerAt, transactionAt, coinsAt, Judged, whole, refused, judged, transactionCounts, coinCounts, both, pairCounts}
 use Rattle.sheets.specs.declared.Place.{Place}
 use Rattle.sheets.proofs.Reading.{field-right}
 
@@ -52,7 +53,7 @@ module _ (s : List ℕ) (counts : ℕ × ℕ) (at : ℕ) where
       let b : length (t .1) ≡ counts .1 = many-long (placeAt 0 s) (counts .1) (l .middle) (l .outputs) in
       rw (a, b)
 
--- ---- a sheet judged: its length, its head, what stands behind it, and nothing left
+-- ---- a sheet judged: its length, its head, what stands after it, and nothing left
 
 module _ {A : Type 0} (side : ℕ) (s : List ℕ) (rest : Head → ℕ → Outcome A) (f : A → ℕ × ℕ) where
   abbrev Said : Judged (ℕ × ℕ)
@@ -67,7 +68,7 @@ module _ {A : Type 0} (side : ℕ) (s : List ℕ) (rest : Head → ℕ → Outco
   sheet-head h e = rw (le-ltb _ _ h, e)
 
   module _ {said : Head} {next : ℕ} (small : length s ≤ 16777216) (head : sheetHeadAt side s ≡ ok said next) where
-    -- what stands behind the head is passed, and then nothing may be left
+    -- what stands after the head is passed, and then nothing may be left
     abbrev Ends : Outcome Unit
     Ends = then (past (rest said next)) (λ nothing end. finishAt s end)
 

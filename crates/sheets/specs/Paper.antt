@@ -1,7 +1,7 @@
 -- What each answer says, in the document's numbers.
 use Prim.Native.Nat.{ℕ}
 use Rattle.refusal.specs.Outcome.{Outcome, ok}
-use Rattle.refusal.specs.Paper.{numberOf, carried, stopped}
+use Rattle.refusal.specs.Paper.{numberOf, carried, stopPaper}
 use Rattle.sheets.specs.Sheet.{Head, Judged, whole, refused}
 use Rattle.sheets.specs.Viewer as viewer
 use Rattle.sheets.specs.declared.Place.{Place}
@@ -13,11 +13,11 @@ use Rattle.sheets.specs.declared.viewer.View.{View}
 
 abbrev pub placePaper : ReadPlace → Outcome Place
 placePaper (ReadPlace.Output p next) = ok p (next .position)
-placePaper (ReadPlace.Refused s) = stopped s
+placePaper (ReadPlace.Refused s) = stopPaper s
 
-abbrev pub headPaper : ReadHead → Outcome Head
-headPaper (ReadHead.Counts version first outputs next) = ok (record { version = version; counts = (first, outputs) }) (next .position)
-headPaper (ReadHead.Refused s) = stopped s
+abbrev pub sheetHeadPaper : ReadHead → Outcome Head
+sheetHeadPaper (ReadHead.Counts version first outputs next) = ok (record { version = version; counts = (first, outputs) }) (next .position)
+sheetHeadPaper (ReadHead.Refused s) = stopPaper s
 
 abbrev pub sheetPaper : SheetRead → Judged (ℕ × ℕ)
 sheetPaper (SheetRead.Counts first outputs) = whole (first, outputs)

@@ -1,26 +1,23 @@
 -- Sheets: document 01, "Sheets and reports", on lists of bytes. "Fields are bit-packed, most significant first".
-use Prim.Native.Nat.{ℕ, zero, suc, _+_, _*_, _/_, _%_, _^_}
+use Prim.Native.Nat.{ℕ, zero, suc, _+_, _/_, _%_, _^_}
 use mathlib.Core.List.{List, [], _∷_, map}
-use mathlib.Core.Bool.{Bool, true, false}
-use lib.ListN.{length, take, drop, getD}
+use mathlib.Core.Bool.{Bool, true}
+use lib.ListN.{length, getD}
 use lib.Dec.{ltb, eqb}
+use Rattle.words.specs.Words.{be}
 use Rattle.words.specs.Buffers.{pick}
 use Rattle.refusal.specs.Outcome.{Outcome, ok, err, then, manyAt}
 use Rattle.encoding.specs.Wire.{sliceAt, finishAt}
 use Rattle.primitives.specs.declared.Outpoint.{Outpoint}
 use Rattle.primitives.specs.Outpoints.{outpoint}
 use Rattle.covenants.specs.Covenant as covenant
-use Rattle.covenants.specs.Covenant.{itemAt, covenantAt, bytesIn, contents}
+use Rattle.covenants.specs.Covenant.{maxEncodedSize, itemAt, covenantAt, bytesIn, contents}
 use Rattle.sheets.specs.declared.Address.{Address}
 use Rattle.sheets.specs.declared.Place.{Place}
 
--- the number that bytes spell after v, the highest byte first
-unfoldable pub spell : ℕ → List ℕ → ℕ
-spell v [] = v
-spell v (b ∷ bs) = spell (v * 256 + b) bs
-
-abbrev pub be : List ℕ → ℕ
-be bs = spell 0 bs
+-- "at most 16,777,216 bytes a sheet (28 first)"
+abbrev pub maxSheetSize : ℕ
+maxSheetSize = 16777216
 
 -- ---- what a sheet holds: lists of inputs, outputs and coins, with no offsets
 
@@ -48,10 +45,11 @@ unfoldable pub seenAt : {A : Type 0} → (ℕ → Outcome A) → ℕ → ℕ →
 seenAt read zero at = []
 seenAt read (suc n) at = upon (read at) (λ x next. x ∷ seenAt read n next)
 
--- where the items of the covenant that stands at a place stand: all that its head counts, or up to the first that cannot be read. Those of a
--- covenant that is accepted are all its items (`ItemsAreRead`), and a sheet with another covenant is refused
+-- where the items of the covenant that stands at a place stand: all that its head counts, or up to the first that
+-- cannot be read. Those of a covenant that is accepted are all its items (`ItemsAreRead`), and a sheet with another
+-- covenant is refused
 unfoldable pub partsFrom : List ℕ → ℕ → List (ℕ × ℕ)
-partsFrom s at = upon (covenant.headAt 1000009 s at) (λ head first. seenAt (itemAt 1000009 at s) (head .1) first)
+partsFrom s at = upon (covenant.headAt maxEncodedSize s at) (λ head first. seenAt (itemAt maxEncodedSize at s) (head .1) first)
 
 unfoldable pub itemsFrom : List ℕ → ℕ → List (List ℕ)
 itemsFrom s at = contents s (partsFrom s at)
@@ -78,7 +76,8 @@ pub record Head : Type 0 where
   pub version : ℕ
   pub counts : ℕ × ℕ
 
--- "Head: version 4 bits = 1; side 2 bits (0 transaction, 1 coins); inputs or coins 10; outputs 10 (0 on coins); spare 6 = 0"; n is its 32 bits
+-- "Head: version 4 bits = 1; side 2 bits (0 transaction, 1 coins); inputs or coins 10; outputs 10 (0 on coins); spare
+-- 6 = 0"; n is its 32 bits
 unfoldable pub headFields : ℕ → ℕ → ℕ → Outcome Head
 headFields side n next =
     field (eqb (n / 2 ^ 28) 1) side 0
@@ -100,7 +99,7 @@ unfoldable pub placeBodyAt : ℕ → ℕ → ℕ → List ℕ → ℕ → Outcom
 placeBodyAt value version size s at =
     then (sliceAt size s at)
     (λ hash covenant.
-    then (covenantAt 1000009 s covenant)
+    then (covenantAt maxEncodedSize s covenant)
     (λ c next. ok (record { value = record { 0 = value }; address = record { version = version; start = hash .0; len = hash .1 }; covenant = covenant; kind = c .kind }) next))
 
 -- "Output: value 64, address version 8, spare 2 = 0": "output fields before the hash (10)" are one fixed read
@@ -119,10 +118,10 @@ gap version = 0
 unfoldable pub coinAt : ℕ → List ℕ → ℕ → Outcome (Outpoint × Place)
 coinAt version s at = then (inputAt s at) (λ o next. then (placeAt 1 s (next + gap version)) (λ p next. ok (o, p) next))
 
--- "at most 16,777,216 bytes a sheet (28 first)"; "leftover bytes are 3"
+-- "at most .. bytes a sheet (28 first)"; "leftover bytes are 3"
 unfoldable pub sheetAt : {A : Type 0} → ℕ → List ℕ → (Head → ℕ → Outcome A) → Outcome A
 sheetAt side s rest =
-    pick (ltb 16777216 (length s)) (err 28 (side ∷ length s ∷ []) 0)
+    pick (ltb maxSheetSize (length s)) (err 28 (side ∷ length s ∷ []) 0)
     (then (sheetHeadAt side s) (λ head next. then (rest head next) (λ a end. then (finishAt s end) (λ nothing end. ok a end))))
 
 -- "Inputs come before outputs"
@@ -137,8 +136,8 @@ transactionAt s = sheetAt 0 s (λ head next. ledgerAt s (head .counts) next)
 unfoldable pub coinsAt : List ℕ → Outcome (List (Outpoint × Place))
 coinsAt s = sheetAt 1 s (λ head next. manyAt (coinAt (head .version) s) (head .counts .0) next)
 
--- ---- a sheet judged whole: what it holds; or a refusal by its number and what it carries, and the side ("Refusals 1 to 5 from a sheet also carry
--- the side"). "A refused read, sheets apart, also returns the position": here none
+-- ---- a sheet judged whole: what it holds; or a refusal by its number and what it carries, and the side ("Refusals 1
+-- to 5 from a sheet also carry the side"). "A refused read, sheets apart, also returns the position": here none
 
 pub data Judged (A : Type 0) : Type 0 where
   whole : A → Judged A

@@ -1,15 +1,17 @@
--- The item viewer: "takes both sheets, a side (0 or 1), a record (an output on side 0, a coin on side 1) and an item number, and hands back the bytes
--- inside the sheet of that side. A separate yes or no tells whether the item exists, no also for another side or if either sheet is refused; on no,
--- the part is the empty start of the transaction sheet" (document 01, "Sheets and reports").
+-- The item viewer: "takes both sheets, a side (0 or 1), a record (an output on side 0, a coin on side 1) and an item
+-- number, and hands back the bytes inside the sheet of that side. A separate yes or no tells whether the item exists,
+-- no also for another side or if either sheet is refused; on no, the part is the empty start of the transaction sheet"
+-- (document 01, "Sheets and reports").
 use Prim.Native.Nat.{ℕ, zero, suc, _+_}
 use mathlib.Core.Bool.{Bool, true, false}
 use mathlib.Core.List.{List, [], _∷_, map}
+use mathlib.Core.Option.{Option, some, none}
 use lib.Dec.{eqb}
 use Rattle.words.specs.Buffers.{pick}
 use Rattle.refusal.specs.Outcome.{Outcome, ok, err}
 use Rattle.primitives.specs.declared.Outpoint.{Outpoint}
-use Rattle.covenants.specs.Covenant.{Reading, covenantAt, bytesIn}
-use Rattle.covenants.specs.Items.{Maybe, there, absent, nth}
+use Rattle.covenants.specs.Covenant.{maxEncodedSize, Reading, covenantAt, bytesIn}
+use Rattle.covenants.specs.Items.{nth}
 use Rattle.sheets.specs.declared.Place.{Place}
 use Rattle.sheets.specs.Sheet.{transactionAt, coinsAt}
 
@@ -20,23 +22,23 @@ pub data View : Type 0 where
   nowhere : View
 
 -- the record of a list of places
-abbrev pub recordOf : List Place → ℕ → Maybe Place
-recordOf [] k = absent
-recordOf (p ∷ ps) zero = there p
+abbrev pub recordOf : List Place → ℕ → Option Place
+recordOf [] k = none
+recordOf (p ∷ ps) zero = some p
 recordOf (p ∷ ps) (suc k) = recordOf ps k
 
 -- the item of a place's covenant
-abbrev pub itemIn : Outcome Reading → ℕ → Maybe (ℕ × ℕ)
+abbrev pub itemIn : Outcome Reading → ℕ → Option (ℕ × ℕ)
 itemIn (ok c next) k = nth (c .items) k
-itemIn (err n vs p) k = absent
+itemIn (err n vs p) k = none
 
-abbrev pub itemOfPlace : List ℕ → Maybe Place → ℕ → Maybe (ℕ × ℕ)
-itemOfPlace s absent k = absent
-itemOfPlace s (there p) k = itemIn (covenantAt 1000009 s (p .covenant)) k
+abbrev pub itemOfPlace : List ℕ → Option Place → ℕ → Option (ℕ × ℕ)
+itemOfPlace s none k = none
+itemOfPlace s (some p) k = itemIn (covenantAt maxEncodedSize s (p .covenant)) k
 
-abbrev pub viewed : (ℕ → ℕ → View) → Maybe (ℕ × ℕ) → View
-viewed in-sheet absent = nowhere
-viewed in-sheet (there part) = in-sheet (part .0) (part .1)
+abbrev pub viewed : (ℕ → ℕ → View) → Option (ℕ × ℕ) → View
+viewed in-sheet none = nowhere
+viewed in-sheet (some part) = in-sheet (part .0) (part .1)
 
 -- both sheets are read whole, and then the record's item
 abbrev pub viewIn : List ℕ → List ℕ → ℕ → ℕ → ℕ → Outcome (List Outpoint × List Place) → Outcome (List (Outpoint × Place)) → View

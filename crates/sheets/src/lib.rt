@@ -13,12 +13,13 @@ use primitives::TransactionHash;
 use refusal::Refusal;
 use refusal::Stop;
 use words::load::load_u64;
+use words::load::wide;
 ghost use mathlib.Core.Path.{_≡_};
 ghost use mathlib.Core.Bool.{true};
 ghost use Prim.Native.Nat.{_+_, _≤_, _<_, _^_};
 ghost use lib.ListN.{length};
 ghost use lib.Dec.{eqb};
-ghost use Rattle.words.specs.Words.{bytes};
+ghost use Rattle.words.specs.Words.{bytes, be};
 ghost use Rattle.words.specs.Buffers.{pick};
 ghost use Rattle.refusal.specs.Outcome.{then, manyAt, past};
 ghost use Rattle.refusal.specs.Paper.{standing};
@@ -28,8 +29,8 @@ ghost use Rattle.encoding.specs.Paper.{movedPaper};
 ghost use Rattle.primitives.specs.Outpoints.{outpointPaper, shownOutpoint};
 ghost use Rattle.covenants.specs.Covenant.{bytesIn};
 ghost use Rattle.sheets.specs.declared.SheetRead.{SheetRead};
-ghost use Rattle.sheets.specs.Sheet.{be, headFields, sheetHeadAt, inputAt, placeBodyAt, placeAt, gap, coinAt, ledgerAt, transactionCounts, coinCounts, pairCounts};
-ghost use Rattle.sheets.specs.Paper.{placePaper, headPaper, sheetPaper, pairPaper};
+ghost use Rattle.sheets.specs.Sheet.{headFields, sheetHeadAt, inputAt, placeBodyAt, placeAt, gap, coinAt, ledgerAt, transactionCounts, coinCounts, pairCounts};
+ghost use Rattle.sheets.specs.Paper.{placePaper, sheetHeadPaper, sheetPaper, pairPaper};
 ghost use Rattle.sheets.specs.Workers.{coinOutput};
 
 // A sheet has at most so many bytes.
@@ -87,12 +88,6 @@ enum ReadHead {
         next: Cursor,
     },
     Refused(Stop),
-}
-
-fn wide(x: u8) -> u64
-    ensures { λ r. ⌜ r ≡ x ⌝ }
-{
-    x as u64
 }
 
 // The number that the n bytes from `at` on spell, the highest byte first.
@@ -160,7 +155,7 @@ fn outputs_allowed(side: u8, outputs: u64) -> bool
 
 // The head's fields, from its 32 bits.
 fn head_fields(side: u8, n: u64, next: Cursor) -> ReadHead
-    ensures { λ r. ⌜ headPaper r ≡ headFields side n (next .position) ⌝ }
+    ensures { λ r. ⌜ sheetHeadPaper r ≡ headFields side n (next .position) ⌝ }
 {
     let outputs = n / 64 % 1024;
     if n / 268_435_456 != 1 {
@@ -184,7 +179,7 @@ fn head_fields(side: u8, n: u64, next: Cursor) -> ReadHead
 }
 
 fn head(s: &[u8], side: u8) -> ReadHead
-    ensures { λ r. ⌜ headPaper r ≡ sheetHeadAt side (now (s .entry)) ⌝ }
+    ensures { λ r. ⌜ sheetHeadPaper r ≡ sheetHeadAt side (now (s .entry)) ⌝ }
 {
     let c = Cursor { position: 0 };
     match c.read_slice(s, 4) {
@@ -308,7 +303,7 @@ pub fn gap_of(version: u8) -> usize
     0
 }
 
-// A coin's outpoint is passed, and what its version puts behind it.
+// A coin's outpoint is passed, and what its version puts after it.
 pub(crate) fn pass_to_output(c: Cursor, s: &[u8], version: u8) -> Moved
     ensures { λ r. ⌜ movedPaper r ≡ coinOutput version (now (s .entry)) (c .position) ⌝ }
 {
@@ -387,7 +382,7 @@ pub(crate) fn pass_coins(from: Cursor, s: &[u8], version: u8, n: usize) -> Moved
     Moved::To(c)
 }
 
-// Inputs and outputs, which stand behind the head of a transaction sheet, are passed.
+// Inputs and outputs, which stand after the head of a transaction sheet, are passed.
 pub(crate) fn ledger(from: Cursor, s: &[u8], inputs: usize, outputs: usize) -> Moved
     ensures { λ r. ⌜ movedPaper r ≡ past (ledgerAt (now (s .entry)) (inputs, outputs) (from .position)) ⌝ }
 {
@@ -397,7 +392,7 @@ pub(crate) fn ledger(from: Cursor, s: &[u8], inputs: usize, outputs: usize) -> M
     }
 }
 
-// Nothing is left behind what was passed.
+// Nothing is left after what was passed.
 fn ends(passed: Moved, s: &[u8]) -> Moved
     ensures { λ r. ⌜ movedPaper r ≡ then (movedPaper passed) (λ nothing end. finishAt (now (s .entry)) end) ⌝ }
 {

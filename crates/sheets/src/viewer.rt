@@ -19,7 +19,7 @@ ghost use Rattle.covenants.specs.Covenant.{bytesIn};
 ghost use Rattle.covenants.specs.Paper.{spotPaper};
 ghost use Rattle.sheets.specs.Sheet.{whole, transactionAt, coinsAt, transactionCounts, coinCounts};
 ghost use Rattle.sheets.specs.Viewer.{recordOf, itemOfPlace, viewed, inTransaction, inCoins, viewOf, viewBytes, viewPlace, exists};
-ghost use Rattle.sheets.specs.Workers.{placesOf, coinPlacesOf, itemBehind, coinStart};
+ghost use Rattle.sheets.specs.Workers.{placesOf, coinPlacesOf, itemAfter, coinStart};
 ghost use Rattle.sheets.specs.Paper.{viewPaper};
 
 // In which sheet an item stands, from where on, and how long it is.
@@ -48,8 +48,8 @@ fn in_coins(spot: Spot) -> View
 }
 
 // The item of the output that stands where a walk ended.
-fn item_behind(walked: Moved, s: &[u8], side: u8, item: usize) -> Spot
-    ensures { λ r. ⌜ spotPaper r ≡ itemBehind side (now (s .entry)) (movedPaper walked) item ⌝ }
+fn item_after(walked: Moved, s: &[u8], side: u8, item: usize) -> Spot
+    ensures { λ r. ⌜ spotPaper r ≡ itemAfter side (now (s .entry)) (movedPaper walked) item ⌝ }
 {
     match walked {
         Moved::To(at) => match place_at(at, s, side) {
@@ -75,7 +75,8 @@ fn coin_start(from: Cursor, s: &[u8], version: u8, n: usize) -> Moved
     }
 }
 
-// An output's item on a transaction sheet with so many inputs and outputs; the first input stands behind the head's 4 bytes.
+// An output's item on a transaction sheet with so many inputs and outputs; the first input stands after the head's
+// 4 bytes.
 fn output_item(tx: &[u8], inputs: usize, outputs: usize, record: usize, item: usize) -> Spot
     requires { ⌜ transactionCounts (now tx) ≡ whole (inputs, outputs) ⌝ }
     ensures { λ r. ⌜ spotPaper r ≡ itemOfPlace (now (tx .entry)) (recordOf (placesOf (transactionAt (now (tx .entry)))) «record») item ⌝ }
@@ -84,10 +85,10 @@ fn output_item(tx: &[u8], inputs: usize, outputs: usize, record: usize, item: us
         return Spot::Absent;
     }
     let first = Cursor { position: 4 };
-    item_behind(ledger(first, tx, inputs, record), tx, 0, item)
+    item_after(ledger(first, tx, inputs, record), tx, 0, item)
 }
 
-// A coin's item on a coin sheet with so many coins; the first stands behind the head's 4 bytes.
+// A coin's item on a coin sheet with so many coins; the first stands after the head's 4 bytes.
 fn coin_item(coins: &[u8], count: usize, record: usize, item: usize) -> Spot
     requires { ⌜ coinCounts (now coins) ≡ whole (count, 0) ⌝ }
     ensures { λ r. ⌜ spotPaper r ≡ itemOfPlace (now (coins .entry)) (recordOf (coinPlacesOf (coinsAt (now (coins .entry)))) «record») item ⌝ }
@@ -96,7 +97,7 @@ fn coin_item(coins: &[u8], count: usize, record: usize, item: usize) -> Spot
         return Spot::Absent;
     }
     let first = Cursor { position: 4 };
-    item_behind(coin_start(first, coins, VERSION, record), coins, 1, item)
+    item_after(coin_start(first, coins, VERSION, record), coins, 1, item)
 }
 
 // Both sheets are judged, and then the record's item is found.

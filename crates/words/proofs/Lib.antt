@@ -1,5 +1,6 @@
 pub mod Cases
 pub mod Le
+pub mod Be
 pub mod Over
 pub mod Laid
 pub mod Lanes

@@ -24,5 +24,5 @@ unfolding over fits
 laid at bs d = pick (fits at bs d) (over at bs d) d
 
 -- an array of n numbers that holds xs, zeros past them
-unfoldable pub padded : ℕ → List ℕ → List ℕ
-padded n xs = xs ++ replicate (n - length xs) 0
+unfoldable pub zeroPadded : ℕ → List ℕ → List ℕ
+zeroPadded n xs = xs ++ replicate (n - length xs) 0

@@ -5,6 +5,13 @@ ghost use lib.ListN.{length, take, drop, getD};
 ghost use Rattle.words.specs.Words.{le, lanes};
 use crate::store::put_bytes;
 
+// A byte as a number of 64 bits.
+pub fn wide(x: u8) -> u64
+    ensures { λ r. ⌜ r ≡ x ⌝ }
+{
+    x as u64
+}
+
 // A byte as a word, with its bound, so that sums of them are seen not to wrap.
 fn byte(m: &[u8], i: usize) -> u64
     requires { ⌜ i < length (now m) ⌝ }

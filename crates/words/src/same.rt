@@ -5,7 +5,8 @@ ghost use lib.ListN.{length, drop};
 ghost use Rattle.words.specs.Sameness.{same};
 use crate::load::whole_word;
 
-// How far both are seen to be the same by words of eight bytes: to a word that differs, or to the bytes after the last whole one.
+// How far both are seen to be the same by words of eight bytes: to a word that differs, or to the bytes after the last
+// whole one.
 fn same_words(a: &[u8], b: &[u8]) -> usize
     requires { ⌜ length (now a) ≡ length (now b) ⌝ }
     ensures { λ r. ⌜ (r ≤ length (now (a .entry))) × (same (now (a .entry)) (now (b .entry)) ≡ same (drop r (now (a .entry))) (drop r (now (b .entry)))) ⌝ }

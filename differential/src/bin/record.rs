@@ -1,4 +1,5 @@
-//! Writes answers of the original into the data of a program that replays them, with what the program is to write: `record CRATE [--check]`.
+//! Writes answers of the original into the data of a program that replays them, with what the program is to write:
+//! `record CRATE [--check]`.
 //! With `--check` nothing is written: the files that stand there are compared.
 
 use std::collections::BTreeMap;
@@ -36,7 +37,7 @@ fn tally(bytes: &[u8], numbers: &mut BTreeMap<(u8, u8), usize>) {
     }
 }
 
-/// The bytes behind their length, and what follows them.
+/// The bytes after their length, and what follows them.
 fn part(bytes: &[u8]) -> (&[u8], &[u8]) {
     let (length, rest) = bytes.split_at(4);
     let length = u32::from_le_bytes(length.try_into().expect("four bytes"));

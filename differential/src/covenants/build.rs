@@ -119,7 +119,7 @@ fn put_filling(bytes: &mut Vec<u8>, length: usize, random: &mut Random) {
     random.fill(&mut bytes[start..start + drawn]);
 }
 
-/// A covenant behind what stands in `bytes`. Its count and lengths may say more than there is.
+/// A covenant after what stands in `bytes`. Its count and lengths may say more than there is.
 pub fn put_covenant(bytes: &mut Vec<u8>, random: &mut Random) {
     bytes.push(kind(random));
     let count = count(random);
@@ -181,7 +181,7 @@ pub fn compact_forms(mut each: impl FnMut(&[u8])) {
     }
 }
 
-/// Covenants around the largest size: a long item, with empty ones before and behind it.
+/// Covenants around the largest size: a long item, with empty ones before and after it.
 pub fn around_largest(mut each: impl FnMut(&[u8])) {
     let mut bytes = Vec::new();
     for length in (999_996..=1_000_001).chain([65_535, 65_536]) {
@@ -209,7 +209,8 @@ pub fn around_largest(mut each: impl FnMut(&[u8])) {
     }
 }
 
-/// Changes a copy of good bytes: bits, single bytes, cuts, insertions and deletions, mostly near `from`, where the marks stand.
+/// Changes a copy of good bytes: bits, single bytes, cuts, insertions and deletions, mostly near `from`, where the
+/// marks stand.
 pub fn damage(bytes: &mut Vec<u8>, from: usize, random: &mut Random) {
     for _ in 0..random.between(1, 3) {
         let place = place(bytes.len(), from, random);

@@ -20,16 +20,13 @@ impl Decode {
         let ours = entries::covenant_decode(bytes, &mut self.lent.directory);
         let (theirs, covenant) = oracle::covenant_decode(bytes);
         let filled = self.lent.is_filled(bytes, 0, covenant.as_ref());
-        tally.compare(
-            theirs.verdict.number,
-            &(ours, filled),
-            &(theirs, true),
-            || Case {
+        tally.compare(theirs.stop.number, &(ours, filled), &(theirs, true), || {
+            Case {
                 entry: "turgamysk_covenant_decode",
                 input: bytes.to_vec(),
                 with: "true: the directory is as expected".to_string(),
-            },
-        );
+            }
+        });
         covenant
     }
 

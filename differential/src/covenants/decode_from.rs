@@ -24,18 +24,15 @@ impl DecodeFrom {
         if position > bytes.len() {
             tally.known("cursor-beyond");
         }
-        tally.compare(
-            theirs.verdict.number,
-            &(ours, filled),
-            &(theirs, true),
-            || Case {
+        tally.compare(theirs.stop.number, &(ours, filled), &(theirs, true), || {
+            Case {
                 entry: "turgamysk_covenant_decode_from",
                 input: bytes.to_vec(),
                 with: format!(
                     "position {position}, limit {limit}; true: the directory is as expected"
                 ),
-            },
-        );
+            }
+        });
     }
 
     fn exhaust(&mut self, tally: &mut Tally, bytes: &[u8], positions: usize) {

@@ -1,4 +1,5 @@
-//! Writing a covenant from a directory: against the original's `encode` where every item lies inside the source, else by document 01's rule.
+//! Writing a covenant from a directory: against the original's `encode` where every item lies inside the source, else
+//! by document 01's rule.
 
 use super::build;
 use crate::kind::Kind;
@@ -185,7 +186,8 @@ impl Encode {
     }
 }
 
-/// A kind of the original that is not its byte's kind is written as that byte, and reads back as another value. Ours has only the byte.
+/// A kind of the original that is not its byte's kind is written as that byte, and reads back as another value. Ours
+/// has only the byte.
 fn compare_kinds(tally: &mut Tally) {
     for byte in 0..=255 {
         let covenant = Covenant {

@@ -17,7 +17,8 @@ pub struct Lent {
     window: usize,
 }
 
-/// Where the original's items stand in the bytes that they were read from, from `start` on, by the forms that it accepts.
+/// Where the original's items stand in the bytes that they were read from, from `start` on, by the forms that it
+/// accepts.
 fn lay_out(covenant: &Covenant, start: usize, directory: &mut Directory) {
     let mut start = start + 1 + compact_width(covenant.items.len() as u64);
     for (index, item) in covenant.items.iter().enumerate() {

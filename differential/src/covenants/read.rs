@@ -22,7 +22,7 @@ fn compare(tally: &mut Tally, bytes: &[u8], position: usize, limit: usize) {
     if position > bytes.len() {
         tally.known("cursor-beyond");
     }
-    tally.compare(theirs.verdict.number, &ours, &theirs, || Case {
+    tally.compare(theirs.stop.number, &ours, &theirs, || Case {
         entry: "turgamysk_covenant_read",
         input: bytes.to_vec(),
         with: format!("position {position}, limit {limit}"),
@@ -101,7 +101,7 @@ fn put_before(bytes: &mut Vec<u8>, random: &mut Random) {
     random.fill(bytes);
 }
 
-/// Mostly where the covenant starts; else anywhere, and rarely behind the end.
+/// Mostly where the covenant starts; else anywhere, and rarely beyond the end.
 fn place(bytes: &[u8], start: usize, random: &mut Random) -> usize {
     match random.below(64) {
         0 => bytes.len() + random.between(1, 3),

@@ -5,7 +5,7 @@ use crate::kind::{Kind, short_inputs};
 use crate::oracle;
 use crate::random::Random;
 use crate::tally::{Case, Tally};
-use turgamysk::entries::{self, RunAnswer, StepAnswer, Verdict};
+use turgamysk::entries::{self, RunAnswer, StepAnswer};
 
 #[derive(Default)]
 pub struct Runs {
@@ -65,10 +65,10 @@ fn compare(tally: &mut Tally, bytes: &[u8], allowance: Allowance) {
     let mut position = 0;
     for count in 0.. {
         let theirs = compare_one(tally, bytes, allowance, position, count);
-        if theirs.ended || theirs.verdict != Verdict::ACCEPTED {
+        if theirs.ended || theirs.stop.number != 0 {
             return compare_whole(tally, bytes, allowance, &theirs);
         }
-        position = theirs.position;
+        position = theirs.stop.position;
     }
 }
 
@@ -81,7 +81,7 @@ fn compare_one(
 ) -> StepAnswer {
     let theirs = step(bytes, allowance.bytes(), position, count);
     let (entry, ours) = allowance.next(bytes, position, count);
-    tally.compare(theirs.verdict.number, &ours, &theirs, || Case {
+    tally.compare(theirs.stop.number, &ours, &theirs, || Case {
         entry,
         input: bytes.to_vec(),
         with: format!(
@@ -94,12 +94,11 @@ fn compare_one(
 
 fn compare_whole(tally: &mut Tally, bytes: &[u8], allowance: Allowance, last: &StepAnswer) {
     let theirs = RunAnswer {
-        verdict: last.verdict,
-        position: last.position,
+        stop: last.stop,
         covenants: last.covenants,
     };
     for (entry, ours) in allowance.read(bytes) {
-        tally.compare(theirs.verdict.number, &ours, &theirs, || Case {
+        tally.compare(theirs.stop.number, &ours, &theirs, || Case {
             entry,
             input: bytes.to_vec(),
             with: format!("limit {}", allowance.bytes()),
@@ -117,10 +116,9 @@ fn step(bytes: &[u8], limit: usize, position: usize, count: usize) -> StepAnswer
         };
     }
     let read = oracle::covenant_read(bytes, position, limit);
-    let is_read = read.verdict == Verdict::ACCEPTED;
+    let is_read = read.stop.number == 0;
     StepAnswer {
-        verdict: read.verdict,
-        position: read.position,
+        stop: read.stop,
         ended: false,
         kind: read.kind,
         count: read.count,

@@ -192,7 +192,7 @@ pub fn key(name: &[u8], random: &mut Random) -> [u8; 32] {
     key
 }
 
-/// An array with a text in it, and other bytes behind it.
+/// An array with a text in it, and other bytes after it.
 fn array<const SIZE: usize>(text: &[u8], random: &mut Random) -> [u8; SIZE] {
     let mut array = [if random.once_in(2) { 0 } else { random.byte() }; SIZE];
     let length = text.len().min(SIZE);

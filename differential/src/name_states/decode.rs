@@ -17,16 +17,16 @@ pub struct Decode {
 
 type Answer = (Result<Whole, Refused>, usize);
 
-/// Our answer, and whether its unused parts are zeros: the state of a refusal, what an accepted record's refusal would carry.
+/// Our answer, and whether its unused parts are zeros: the state of a refusal, what an accepted record's refusal would
+/// carry.
 fn ours(key: &[u8; 32], record: &[u8]) -> (Answer, bool) {
     let answer = entries::name_state_decode(key, record);
     let state = Whole(answer.state);
-    if answer.verdict.number == 0 {
-        let unused = answer.verdict == Verdict::ACCEPTED;
-        return ((Ok(state), answer.position), unused);
+    let (verdict, position) = (answer.stop.verdict(), answer.stop.position);
+    if verdict.number == 0 {
+        return ((Ok(state), position), verdict == Verdict::ACCEPTED);
     }
-    let unused = state == Whole::ZEROS;
-    ((Err(answer.verdict), answer.position), unused)
+    ((Err(verdict), position), state == Whole::ZEROS)
 }
 
 fn compare(tally: &mut Tally, key: &[u8; 32], record: &[u8]) {

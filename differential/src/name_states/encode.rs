@@ -1,4 +1,5 @@
-//! Writing a state, and what is told of one: its size, its class, its owner, its bitmap, what binds it, whether it is null and whether it is another.
+//! Writing a state, and what is told of one: its size, its class, its owner, its bitmap, what binds it, whether it is
+//! null and whether it is another.
 
 use super::build::{Record, state};
 use super::original::{self, Whole};
@@ -106,7 +107,8 @@ fn compare_binding(tally: &mut Tally, state: &NameState) {
     });
 }
 
-/// The original keeps its bitmap to itself: it is the one in the record that the original writes, behind name, resource and two heights.
+/// The original keeps its bitmap to itself: it is the one in the record that the original writes, after name, resource
+/// and two heights.
 fn compare_bitmap(tally: &mut Tally, state: &NameState, record: &[u8]) {
     let at = 1 + state.name_length + 2 + state.resource_length + 8;
     let theirs = u16::from_le_bytes([record[at], record[at + 1]]);

@@ -6,7 +6,7 @@ use hns_encoding::Decoder;
 use std::fmt;
 use turgamysk::{Dollarydoos, Height, NameHash, NameState, Outpoint, TransactionHash};
 
-/// A state compared field by field, bytes behind its lengths included.
+/// A state compared field by field, bytes past its lengths included.
 #[derive(Clone, Copy)]
 pub struct Whole(pub NameState);
 
@@ -142,7 +142,8 @@ pub fn decode(key: &[u8; 32], record: &[u8]) -> (Result<Whole, Refused>, usize) 
     (read.map(|state| Whole(ours(&state))), position)
 }
 
-/// Walks a record with the original's decoder, which `NameState::decode` keeps to itself: where it stands, and why the walk stopped.
+/// Walks a record with the original's decoder, which `NameState::decode` keeps to itself: where it stands, and why the
+/// walk stopped.
 fn stand(record: &[u8]) -> (Option<Refused>, usize) {
     if record.len() > MAX_NAME_STATE_SIZE {
         return (Some(refused(5, [record.len(), MAX_NAME_STATE_SIZE, 0])), 0);

@@ -47,12 +47,12 @@ fn class(verdict: Verdict, other: usize) -> u64 {
 
 fn covenant_numbers(answer: &CovenantAnswer) -> Vec<u64> {
     let others = [
-        answer.position,
+        answer.stop.position,
         answer.kind.into(),
         answer.count,
         answer.used,
     ];
-    numbers(answer.verdict, &others)
+    numbers(answer.stop.verdict(), &others)
 }
 
 fn offer_covenant(
@@ -70,7 +70,11 @@ fn offer_covenant(
         numbers: covenant_numbers(answer),
         bytes: Vec::new(),
     };
-    records.offer(class(answer.verdict, is_long.into()), enough, &record);
+    records.offer(
+        class(answer.stop.verdict(), is_long.into()),
+        enough,
+        &record,
+    );
 }
 
 /// A covenant that is the whole input.
@@ -79,7 +83,7 @@ fn decode(records: &mut Records, bytes: &[u8], enough: usize) {
     offer_covenant(records, entry::COVENANT, bytes.to_vec(), &answer, enough);
 }
 
-/// A covenant at a position, which is not behind the end: there the original can't stand.
+/// A covenant at a position, which is not beyond the end: there the original can't stand.
 fn read(records: &mut Records, bytes: &[u8], position: usize, limit: usize, enough: usize) {
     let answer = oracle::covenant_read(bytes, position, limit);
     let mut argument = (limit as u64).to_le_bytes().to_vec();
@@ -252,17 +256,17 @@ fn both(records: &mut Records, pair: &Sheets, class: impl Fn(Verdict, u8) -> u64
     let record = Record {
         entry: entry::LINKS,
         argument: [&length.to_le_bytes()[..], &pair.transaction, &pair.coins].concat(),
-        numbers: numbers(answer.verdict, &others),
+        numbers: numbers(answer.stop.verdict(), &others),
         bytes: [answer.expected, answer.actual].map(encoded).concat(),
     };
-    records.offer(class(answer.verdict, answer.side), enough, &record);
+    records.offer(class(answer.stop.verdict(), answer.side), enough, &record);
 }
 
 /// Rows whose ends are their own: a bid's commitment, a claim that can't redeem, a transfer's address.
 const OWN_ENDS: [(u8, u8); 3] = [(3, 4), (1, 5), (9, 10)];
 
-/// Every kind with every kind, right and with every single fault, and without a partner: each different answer once, and all of the rows with ends
-/// of their own.
+/// Every kind with every kind, right and with every single fault, and without a partner: each different answer once,
+/// and all of the rows with ends of their own.
 fn rows(records: &mut Records, random: &mut Random) {
     let mut pair = Sheets::default();
     for spent in 0..=12 {
@@ -327,7 +331,7 @@ fn links(records: &mut Records, random: &mut Random) {
             continue;
         }
         // Refusals of a sheet by its side, those of a rule by the input.
-        let enough = match verify::answer(&pair).answer.verdict.number {
+        let enough = match verify::answer(&pair).answer.stop.number {
             0 => 34,
             1..=5 | 27 => 12,
             _ => 3,

@@ -3,7 +3,8 @@
 use crate::covenants::build::{put_compact, put_covenant};
 use crate::random::Random;
 
-/// What may be wrong with an input, its coin and its output. A set of these makes a pair; an empty one is right in every row.
+/// What may be wrong with an input, its coin and its output. A set of these makes a pair; an empty one is right in
+/// every row.
 pub mod fault {
     pub const SPENT_NAME_GONE: u32 = 1 << 0;
     pub const SPENT_NAME_SHORT: u32 = 1 << 1;
@@ -197,7 +198,7 @@ fn break_created(items: &mut Vec<Vec<u8>>, faults: u32) {
     truncate(items, faults, &gone);
 }
 
-/// An item that is gone takes those behind it along.
+/// An item that is gone takes those after it along.
 fn truncate(items: &mut Vec<Vec<u8>>, faults: u32, gone: &[(u32, usize)]) {
     for (fault, left) in gone {
         if faults & fault != 0 {
@@ -206,7 +207,8 @@ fn truncate(items: &mut Vec<Vec<u8>>, faults: u32, gone: &[(u32, usize)]) {
     }
 }
 
-/// "Head: version 4 bits = 1; side 2 bits (0 transaction, 1 coins); inputs or coins 10; outputs 10 (0 on coins); spare 6 = 0."
+/// "Head: version 4 bits = 1; side 2 bits (0 transaction, 1 coins); inputs or coins 10; outputs 10 (0 on coins); spare
+/// 6 = 0."
 pub fn put_head(sheet: &mut Vec<u8>, side: u32, first: usize, outputs: usize) {
     let head = 1 << 28 | side << 26 | (first as u32) << 16 | (outputs as u32) << 6;
     sheet.extend_from_slice(&head.to_be_bytes());
@@ -237,7 +239,7 @@ pub struct Sheets {
 }
 
 impl Sheets {
-    /// Inputs and coins of the pairs, and the outputs of the first of them; behind these the others.
+    /// Inputs and coins of the pairs, and the outputs of the first of them; after these the others.
     pub fn lay(&mut self, pairs: &[Pair], partners: usize, others: &[Piece]) {
         self.transaction.clear();
         self.coins.clear();
@@ -350,7 +352,7 @@ pub fn draw(sheets: &mut Sheets, random: &mut Random) {
             pair(0, kind, 0, random).output
         })
         .collect();
-    // Outputs behind a missing partner would become partners themselves.
+    // Outputs after a missing partner would become partners themselves.
     let others = if partners < count { &[][..] } else { &others };
     sheets.lay(&pairs, partners, others);
 }

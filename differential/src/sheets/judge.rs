@@ -24,7 +24,7 @@ fn answer(counts: Result<(usize, usize), Refused>, side: u8) -> SheetAnswer {
             ..SheetAnswer::default()
         },
         Err(verdict) => SheetAnswer {
-            verdict,
+            stop: verdict.at(0),
             side,
             ..SheetAnswer::default()
         },
@@ -42,7 +42,7 @@ fn compare_transaction(tally: &mut Tally, sheet: &[u8]) -> Option<TransactionShe
         .map_err(|refused| *refused);
     let theirs = answer(counts, 0);
     let ours = entries::judge_transaction(sheet);
-    tally.compare(theirs.verdict.number, &ours, &theirs, || Case {
+    tally.compare(theirs.stop.number, &ours, &theirs, || Case {
         entry: "turgamysk_judge_transaction",
         input: sheet.to_vec(),
         with: String::new(),
@@ -58,7 +58,7 @@ fn compare_coins(tally: &mut Tally, sheet: &[u8]) -> Option<CoinSheet> {
         .map_err(|refused| *refused);
     let theirs = answer(counts, 1);
     let ours = entries::judge_coins(sheet);
-    tally.compare(theirs.verdict.number, &ours, &theirs, || Case {
+    tally.compare(theirs.stop.number, &ours, &theirs, || Case {
         entry: "turgamysk_judge_coins",
         input: sheet.to_vec(),
         with: String::new(),
@@ -69,7 +69,8 @@ fn compare_coins(tally: &mut Tally, sheet: &[u8]) -> Option<CoinSheet> {
 /// Both sheets as the original has them, where neither is refused.
 type Both = Option<(TransactionSheet, CoinSheet)>;
 
-/// "no also for another side or if either sheet is refused; on no, the part is the empty start of the transaction sheet".
+/// "no also for another side or if either sheet is refused; on no, the part is the empty start of the transaction
+/// sheet".
 fn viewed(both: &Both, side: u8, record: usize, item: usize) -> ViewAnswer {
     let found = || -> Option<Spot> {
         let (transaction, coins) = both.as_ref()?;

@@ -23,7 +23,7 @@ fn compare(tally: &mut Tally, sheets: &Sheets) {
     }
     let theirs = verified.answer;
     let ours = entries::verify_covenant_links(&sheets.transaction, &sheets.coins);
-    tally.compare(theirs.verdict.number, &ours, &theirs, || Case {
+    tally.compare(theirs.stop.number, &ours, &theirs, || Case {
         entry: "turgamysk_verify_covenant_links",
         input: sheets.transaction.clone(),
         with: format!("coins {:02x?}", sheets.coins),
@@ -41,7 +41,7 @@ fn few_faults() -> Vec<u32> {
 }
 
 impl Links {
-    /// A pair behind one that passes, and alone.
+    /// A pair after one that passes, and alone.
     fn compare_behind(&mut self, tally: &mut Tally, first: &Pair, pair: Pair) {
         let pairs = [first.clone(), pair];
         for pairs in [&pairs[..], &pairs[1..]] {
@@ -71,7 +71,7 @@ impl Links {
         }
     }
 
-    /// Every pair of bytes as kinds, and every kind of an output behind the inputs.
+    /// Every pair of bytes as kinds, and every kind of an output past the inputs.
     fn kinds(&mut self, tally: &mut Tally) {
         let mut random = Random::new(1);
         let mut pair = build::pair(0, 0, 0, &mut random);
@@ -94,7 +94,7 @@ impl Links {
         }
     }
 
-    /// Inputs and coins that differ in number: the counts of a head, and what stands behind it.
+    /// Inputs and coins that differ in number: the counts of a head, and what stands after it.
     fn counts(&mut self, tally: &mut Tally) {
         let mut random = Random::new(2);
         let pairs = [(); 4].map(|()| build::pair(0, 0, 0, &mut random));

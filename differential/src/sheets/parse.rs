@@ -1,4 +1,5 @@
-//! Sheets by document 01's rules, over the original's decoder and covenants: what they hold, in the original's own types.
+//! Sheets by document 01's rules, over the original's decoder and covenants: what they hold, in the original's own
+//! types.
 
 use crate::covenants::build::compact_width;
 use crate::oracle::{Refused, covenant_error, decode_error, decoder_at, guarded, refused};

@@ -10,7 +10,7 @@ use crate::tally::{Case, Tally};
 use crate::wire::our_outpoint;
 use hns_transaction::Output;
 use turgamysk::Outpoint;
-use turgamysk::entries::{self, OutpointAnswer, PlaceAnswer};
+use turgamysk::entries::{self, FlatStop, OutpointAnswer, PlaceAnswer};
 
 /// The bytes of an output before its hash.
 const FIELDS: usize = 10;
@@ -23,8 +23,7 @@ pub struct Places {
 fn place(output: Result<Output, Refused>, start: usize, position: usize) -> PlaceAnswer {
     match output {
         Ok(output) => PlaceAnswer {
-            verdict: Refused::ACCEPTED,
-            position,
+            stop: FlatStop::passed(position),
             value: output.value.get(),
             version: output.address.version,
             start: start + FIELDS,
@@ -33,8 +32,7 @@ fn place(output: Result<Output, Refused>, start: usize, position: usize) -> Plac
             kind: output.covenant.kind.as_u8(),
         },
         Err(verdict) => PlaceAnswer {
-            verdict,
-            position,
+            stop: verdict.at(position),
             ..PlaceAnswer::default()
         },
     }
@@ -44,7 +42,7 @@ fn compare_output(tally: &mut Tally, sheet: &[u8], position: usize, side: u8) {
     let (output, stand) = parse::output_at(sheet, position, side);
     let theirs = place(output, position, stand);
     let ours = entries::sheet_place_at(sheet, position, side);
-    tally.compare(theirs.verdict.number, &ours, &theirs, || Case {
+    tally.compare(theirs.stop.number, &ours, &theirs, || Case {
         entry: "turgamysk_sheet_place_at",
         input: sheet.to_vec(),
         with: format!("position {position}, side {side}"),
@@ -54,12 +52,11 @@ fn compare_output(tally: &mut Tally, sheet: &[u8], position: usize, side: u8) {
 fn compare_input(tally: &mut Tally, sheet: &[u8], position: usize) {
     let (outpoint, stand) = parse::input_at(sheet, position);
     let theirs = OutpointAnswer {
-        verdict: outpoint.err().unwrap_or(Refused::ACCEPTED),
-        position: stand,
+        stop: outpoint.err().unwrap_or(Refused::ACCEPTED).at(stand),
         outpoint: outpoint.map_or(Outpoint::ZEROS, |outpoint| our_outpoint(&outpoint)),
     };
     let ours = entries::sheet_input_at(sheet, position);
-    tally.compare(theirs.verdict.number, &ours, &theirs, || Case {
+    tally.compare(theirs.stop.number, &ours, &theirs, || Case {
         entry: "turgamysk_sheet_input_at",
         input: sheet.to_vec(),
         with: format!("position {position}"),

@@ -14,7 +14,8 @@ use turgamysk::{Outpoint, TransactionHash};
 /// What stands where no outpoint is told.
 const NO_OUTPOINTS: [Outpoint; 2] = [Outpoint::ZEROS; 2];
 
-/// The answer, and whether it is document 01's, because the original panicked at the difference that docs/DIFFERENCES.md lists.
+/// The answer, and whether it is document 01's, because the original panicked at the difference that
+/// docs/DIFFERENCES.md lists.
 pub struct Verified {
     pub answer: LinksAnswer,
     pub panicked: bool,
@@ -31,7 +32,7 @@ impl From<LinksAnswer> for Verified {
 
 fn refusal(verdict: Refused, side: u8, [expected, actual]: [Outpoint; 2]) -> LinksAnswer {
     LinksAnswer {
-        verdict,
+        stop: verdict.at(0),
         side,
         expected,
         actual,
@@ -167,7 +168,7 @@ mod tests {
             transaction: transaction.to_vec(),
             coins: coins.to_vec(),
         };
-        answer(&sheets).answer.verdict
+        answer(&sheets).answer.stop.verdict()
     }
 
     #[test]
@@ -203,7 +204,7 @@ mod tests {
         print_own_panics_only();
         let empty = answer(&transfer(Vec::new()));
         assert!(empty.panicked);
-        assert_eq!(empty.answer.verdict, refused(15, [0, 7, 0]));
+        assert_eq!(empty.answer.stop.verdict(), refused(15, [0, 7, 0]));
         for (third, verdict) in [
             (vec![0], Verdict::ACCEPTED),
             (vec![1], refused(23, [0, 0, 0])),
@@ -211,7 +212,7 @@ mod tests {
         ] {
             let other = answer(&transfer(third));
             assert!(!other.panicked);
-            assert_eq!(other.answer.verdict, verdict);
+            assert_eq!(other.answer.stop.verdict(), verdict);
         }
     }
 }

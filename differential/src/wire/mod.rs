@@ -1,4 +1,5 @@
-//! Module 1: the reads of the original's `Decoder` at a position, the writes of its `Encoder` at an offset, and outpoints.
+//! Module 1: the reads of the original's `Decoder` at a position, the writes of its `Encoder` at an offset, and
+//! outpoints.
 
 pub mod reads;
 pub mod writes;

@@ -3,41 +3,36 @@
 use super::{SIZES, our_outpoint};
 use crate::covenants::build::put_compact;
 use crate::kind::{Kind, short_inputs};
-use crate::oracle::{Refused, decode_error, decoder_at};
+use crate::oracle::{decode_error, decoder_at};
 use crate::random::Random;
 use crate::tally::{Case, Tally};
 use hns_encoding::{DecodeError, Decoder};
 use hns_primitives::TransactionHash;
 use turgamysk::Outpoint;
-use turgamysk::entries::{self, MovedAnswer, NumberAnswer, OutpointAnswer, SpanAnswer, Verdict};
+use turgamysk::entries::{self, FlatStop, NumberAnswer, OutpointAnswer, SpanAnswer};
 
 /// A read of the original at a position: its value and where the decoder stands, or the refusal with the position.
-type Read<T> = Result<(T, usize), (Refused, usize)>;
+type Read<T> = Result<(T, usize), FlatStop>;
 
 fn read<'a, T>(
     bytes: &'a [u8],
     position: usize,
     call: impl FnOnce(&mut Decoder<'a>) -> Result<T, DecodeError>,
 ) -> Read<T> {
-    let mut decoder = decoder_at(bytes, position).map_err(|refused| (refused, position))?;
+    let mut decoder = decoder_at(bytes, position).map_err(|refused| refused.at(position))?;
     match call(&mut decoder) {
         Ok(value) => Ok((value, decoder.position())),
-        Err(error) => Err((decode_error(&error), decoder.position())),
+        Err(error) => Err(decode_error(&error).at(decoder.position())),
     }
 }
 
 fn number(read: Read<u64>) -> NumberAnswer {
     match read {
         Ok((value, position)) => NumberAnswer {
-            position,
+            stop: FlatStop::passed(position),
             value,
-            ..NumberAnswer::default()
         },
-        Err((verdict, position)) => NumberAnswer {
-            verdict,
-            position,
-            value: 0,
-        },
+        Err(stop) => NumberAnswer { stop, value: 0 },
     }
 }
 
@@ -45,29 +40,21 @@ fn number(read: Read<u64>) -> NumberAnswer {
 fn span(read: Read<usize>) -> SpanAnswer {
     match read {
         Ok((length, position)) => SpanAnswer {
-            position,
+            stop: FlatStop::passed(position),
             start: position - length,
             length,
-            ..SpanAnswer::default()
         },
-        Err((verdict, position)) => SpanAnswer {
-            verdict,
-            position,
+        Err(stop) => SpanAnswer {
+            stop,
             ..SpanAnswer::default()
         },
     }
 }
 
-fn moved<T>(read: &Read<T>) -> MovedAnswer {
+fn moved<T>(read: &Read<T>) -> FlatStop {
     match read {
-        Ok((_, position)) => MovedAnswer {
-            verdict: Verdict::ACCEPTED,
-            position: *position,
-        },
-        Err((verdict, position)) => MovedAnswer {
-            verdict: *verdict,
-            position: *position,
-        },
+        Ok((_, position)) => FlatStop::passed(*position),
+        Err(stop) => *stop,
     }
 }
 
@@ -88,7 +75,7 @@ fn compare_numbers(tally: &mut Tally, bytes: &[u8], at: At) {
     let position = at.position;
     let mut compare = |entry, ours: NumberAnswer, theirs: Read<u64>| {
         let theirs = number(theirs);
-        tally.compare(theirs.verdict.number, &ours, &theirs, || Case {
+        tally.compare(theirs.stop.number, &ours, &theirs, || Case {
             entry,
             input: bytes.to_vec(),
             with: format!("{at:?}"),
@@ -142,7 +129,7 @@ fn compare_spans(tally: &mut Tally, bytes: &[u8], at: At) {
     } = at;
     let mut compare = |entry, ours: SpanAnswer, theirs: Read<usize>| {
         let theirs = span(theirs);
-        tally.compare(theirs.verdict.number, &ours, &theirs, || Case {
+        tally.compare(theirs.stop.number, &ours, &theirs, || Case {
             entry,
             input: bytes.to_vec(),
             with: format!("{at:?}"),
@@ -179,16 +166,13 @@ fn compare_arrays(tally: &mut Tally, bytes: &[u8], position: usize) {
     let ours = entries::read_array(bytes, position, &mut array);
     let expected = theirs.as_ref().map_or([0; 32], |(array, _)| *array);
     let answer = moved(&theirs);
-    tally.compare(
-        answer.verdict.number,
-        &(ours, array),
-        &(answer, expected),
-        || Case {
+    tally.compare(answer.number, &(ours, array), &(answer, expected), || {
+        Case {
             entry: "turgamysk_read_array",
             input: bytes.to_vec(),
             with: format!("position {position}"),
-        },
-    );
+        }
+    });
 }
 
 fn compare_ends(tally: &mut Tally, bytes: &[u8], position: usize) {
@@ -197,16 +181,13 @@ fn compare_ends(tally: &mut Tally, bytes: &[u8], position: usize) {
     // "A cursor beyond its slice .. has 0 remaining".
     let left = decoder_at(bytes, position).map_or(0, |decoder| decoder.remaining());
     let remaining = entries::remaining(bytes, position);
-    tally.compare(
-        theirs.verdict.number,
-        &(ours, remaining),
-        &(theirs, left),
-        || Case {
+    tally.compare(theirs.number, &(ours, remaining), &(theirs, left), || {
+        Case {
             entry: "turgamysk_finish, turgamysk_remaining",
             input: bytes.to_vec(),
             with: format!("position {position}"),
-        },
-    );
+        }
+    });
 }
 
 fn outpoint(decoder: &mut Decoder) -> Result<hns_primitives::Outpoint, DecodeError> {
@@ -219,17 +200,13 @@ fn outpoint(decoder: &mut Decoder) -> Result<hns_primitives::Outpoint, DecodeErr
 /// `decode_outpoint_from` is not public: its two reads stand above.
 fn compare_outpoints(tally: &mut Tally, bytes: &[u8], position: usize) {
     let theirs = read(bytes, position, outpoint);
-    let MovedAnswer {
-        verdict,
-        position: end,
-    } = moved(&theirs);
+    let stop = moved(&theirs);
     let theirs = OutpointAnswer {
-        verdict,
-        position: end,
+        stop,
         outpoint: theirs.map_or(Outpoint::ZEROS, |(outpoint, _)| our_outpoint(&outpoint)),
     };
     let ours = entries::outpoint_decode(bytes, position);
-    tally.compare(verdict.number, &ours, &theirs, || Case {
+    tally.compare(stop.number, &ours, &theirs, || Case {
         entry: "turgamysk_outpoint_decode",
         input: bytes.to_vec(),
         with: format!("position {position}"),

@@ -1,14 +1,12 @@
-use super::{Verdict, WriteAnswer};
+use super::{FlatStop, WriteAnswer};
 use crate::covenant::Directory;
 
 /// A covenant that was read, or the refusal. Unused parts are zeros.
 #[repr(C)]
 #[derive(Clone, Copy, Debug, Default, Eq, PartialEq)]
 pub struct CovenantAnswer {
-    /// Whether it was read.
-    pub verdict: Verdict,
-    /// Where the reader then stands.
-    pub position: usize,
+    /// Whether it was read, and where the reader then stands.
+    pub stop: FlatStop,
     /// The covenant's kind.
     pub kind: u8,
     /// How many items it has.
@@ -66,7 +64,8 @@ pub fn covenant_read(bytes: &[u8], position: usize, limit: usize) -> CovenantAns
     unsafe { c::turgamysk_covenant_read(bytes.as_ptr(), bytes.len(), position, limit) }
 }
 
-/// The covenant that is all of the bytes; its items go into the directory, with zeros after them, and zeros alone where it is refused.
+/// The covenant that is all of the bytes; its items go into the directory, with zeros after them, and zeros alone where
+/// it is refused.
 pub fn covenant_decode(bytes: &[u8], directory: &mut Directory) -> CovenantAnswer {
     let starts = directory.starts.as_mut_ptr();
     let lengths = directory.lengths.as_mut_ptr();
@@ -94,7 +93,8 @@ pub fn covenant_decode_from(
     }
 }
 
-/// A covenant of `kind` with the first `count` items of a directory over `source`, into the first bytes of `dest`: all of it, or nothing.
+/// A covenant of `kind` with the first `count` items of a directory over `source`, into the first bytes of `dest`: all
+/// of it, or nothing.
 pub fn covenant_encode(
     dest: &mut [u8],
     kind: u8,

@@ -1,14 +1,12 @@
-use super::{Bytes32, Verdict, ViewAnswer};
+use super::{Bytes32, FlatStop, ViewAnswer};
 use crate::covenant::Directory;
 
 /// A covenant of a run, or how the run ended. Unused parts are zeros.
 #[repr(C)]
 #[derive(Clone, Copy, Debug, Default, Eq, PartialEq)]
 pub struct StepAnswer {
-    /// Whether the next covenant is refused.
-    pub verdict: Verdict,
-    /// Behind the covenant, or where the reader stands after the refusal.
-    pub position: usize,
+    /// Whether the next covenant is refused; and the position after it, or where the reader stands after the refusal.
+    pub stop: FlatStop,
     /// Whether no bytes were left.
     pub ended: bool,
     /// The covenant's kind.
@@ -25,10 +23,8 @@ pub struct StepAnswer {
 #[repr(C)]
 #[derive(Clone, Copy, Debug, Default, Eq, PartialEq)]
 pub struct RunAnswer {
-    /// What stopped it, if it did not end with its bytes.
-    pub verdict: Verdict,
-    /// Where the reader stands after the refusal.
-    pub position: usize,
+    /// What stopped it, if it did not end with its bytes, and where the reader then stands.
+    pub stop: FlatStop,
     /// How many covenants there were.
     pub covenants: usize,
 }

@@ -1,12 +1,12 @@
-use super::Verdict;
+use super::FlatStop;
 use crate::primitives::Outpoint;
 
 /// The summary of two sheets that keep the link rules, or the refusal. Unused parts are zeros.
 #[repr(C)]
 #[derive(Clone, Copy, Debug, Eq, PartialEq)]
 pub struct LinksAnswer {
-    /// Whether they keep them.
-    pub verdict: Verdict,
+    /// Whether they keep them; its position is always 0.
+    pub stop: FlatStop,
     /// The sheet that was refused.
     pub side: u8,
     /// The inputs.
@@ -25,7 +25,7 @@ impl Default for LinksAnswer {
     /// An answer in which every part is unused.
     fn default() -> Self {
         Self {
-            verdict: Verdict::default(),
+            stop: FlatStop::default(),
             side: 0,
             inputs_checked: 0,
             linked_outputs: 0,

@@ -1,11 +1,12 @@
-use super::{OutpointAnswer, Verdict};
+use super::{FlatStop, OutpointAnswer};
 
-/// How many inputs (or coins) and outputs a sheet has, or the refusal and which sheet it is about. Unused parts are zeros.
+/// How many inputs (or coins) and outputs a sheet has, or the refusal and which sheet it is about. Unused parts are
+/// zeros.
 #[repr(C)]
 #[derive(Clone, Copy, Debug, Default, Eq, PartialEq)]
 pub struct SheetAnswer {
-    /// Whether the sheet is refused.
-    pub verdict: Verdict,
+    /// Whether the sheet is refused; its position is always 0.
+    pub stop: FlatStop,
     /// The sheet that was refused: 0 the transaction's, 1 the coins'.
     pub side: u8,
     /// Its inputs, or its coins.
@@ -18,10 +19,8 @@ pub struct SheetAnswer {
 #[repr(C)]
 #[derive(Clone, Copy, Debug, Default, Eq, PartialEq)]
 pub struct PlaceAnswer {
-    /// Whether it was read.
-    pub verdict: Verdict,
-    /// Where the reader then stands.
-    pub position: usize,
+    /// Whether it was read, and where the reader then stands.
+    pub stop: FlatStop,
     /// Its value.
     pub value: u64,
     /// The version of its address.

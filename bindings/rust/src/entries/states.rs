@@ -1,4 +1,4 @@
-use super::{Bytes32, Verdict, WriteAnswer};
+use super::{Bytes32, FlatStop, WriteAnswer};
 use crate::name_state::NameState;
 use crate::primitives::Outpoint;
 
@@ -6,10 +6,8 @@ use crate::primitives::Outpoint;
 #[repr(C)]
 #[derive(Clone, Copy, Debug)]
 pub struct StateAnswer {
-    /// Whether it was read.
-    pub verdict: Verdict,
-    /// Where the reader then stands.
-    pub position: usize,
+    /// Whether it was read, and where the reader then stands.
+    pub stop: FlatStop,
     /// The state.
     pub state: NameState,
 }

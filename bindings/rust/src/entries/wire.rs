@@ -1,14 +1,12 @@
-use super::{Bytes32, Verdict, WriteAnswer};
+use super::{Bytes32, FlatStop, WriteAnswer};
 use crate::primitives::Outpoint;
 
 /// A number that was read, or the refusal. Unused parts are zeros.
 #[repr(C)]
 #[derive(Clone, Copy, Debug, Default, Eq, PartialEq)]
 pub struct NumberAnswer {
-    /// Whether it was read.
-    pub verdict: Verdict,
-    /// Where the reader then stands.
-    pub position: usize,
+    /// Whether it was read, and where the reader then stands.
+    pub stop: FlatStop,
     /// The number.
     pub value: u64,
 }
@@ -17,34 +15,20 @@ pub struct NumberAnswer {
 #[repr(C)]
 #[derive(Clone, Copy, Debug, Default, Eq, PartialEq)]
 pub struct SpanAnswer {
-    /// Whether they were read.
-    pub verdict: Verdict,
-    /// Where the reader then stands.
-    pub position: usize,
+    /// Whether they were read, and where the reader then stands.
+    pub stop: FlatStop,
     /// Where the bytes begin.
     pub start: usize,
     /// How many they are.
     pub length: usize,
 }
 
-/// A read that has no value, or puts it elsewhere; or the refusal.
-#[repr(C)]
-#[derive(Clone, Copy, Debug, Default, Eq, PartialEq)]
-pub struct MovedAnswer {
-    /// Whether it was read.
-    pub verdict: Verdict,
-    /// Where the reader then stands.
-    pub position: usize,
-}
-
 /// An outpoint that was read, or the refusal and an outpoint of zeros.
 #[repr(C)]
 #[derive(Clone, Copy, Debug, Eq, PartialEq)]
 pub struct OutpointAnswer {
-    /// Whether it was read.
-    pub verdict: Verdict,
-    /// Where the reader then stands.
-    pub position: usize,
+    /// Whether it was read, and where the reader then stands.
+    pub stop: FlatStop,
     /// The outpoint.
     pub outpoint: Outpoint,
 }
@@ -77,7 +61,7 @@ macro_rules! reads {
 }
 
 reads! {
-    /// How many bytes stand behind `position`.
+    /// How many bytes stand after `position`.
     remaining = turgamysk_remaining() -> usize;
     /// The byte at `position`.
     read_u8 = turgamysk_read_u8() -> NumberAnswer;
@@ -97,8 +81,8 @@ reads! {
     read_bounded = turgamysk_read_bounded(size, maximum) -> SpanAnswer;
     /// As many bytes as a compact size of at most `maximum` says.
     read_varbytes = turgamysk_read_varbytes(maximum) -> SpanAnswer;
-    /// Whether no bytes stand behind `position`.
-    finish = turgamysk_finish() -> MovedAnswer;
+    /// Whether no bytes stand after `position`.
+    finish = turgamysk_finish() -> FlatStop;
     /// The outpoint in 36 bytes there.
     outpoint_decode = turgamysk_outpoint_decode() -> OutpointAnswer;
 }
@@ -152,7 +136,7 @@ mod c {
             length: usize,
             position: usize,
             array: *mut u8,
-        ) -> MovedAnswer;
+        ) -> FlatStop;
         pub fn turgamysk_put_bytes(
             dest: *mut u8,
             dest_length: usize,
@@ -175,7 +159,7 @@ mod c {
 }
 
 /// The next 32 bytes, into `array`: zeros where they are refused.
-pub fn read_array(source: &[u8], position: usize, array: &mut Bytes32) -> MovedAnswer {
+pub fn read_array(source: &[u8], position: usize, array: &mut Bytes32) -> FlatStop {
     let array = array.as_mut_ptr();
     unsafe { c::turgamysk_read_array(source.as_ptr(), source.len(), position, array) }
 }
@@ -186,7 +170,7 @@ pub fn put_bytes(dest: &mut [u8], at: usize, value: &[u8]) -> WriteAnswer {
     unsafe { c::turgamysk_put_bytes(dest.as_mut_ptr(), dest.len(), at, start, length) }
 }
 
-/// Bytes behind their length from `at` on.
+/// Bytes after their length from `at` on.
 pub fn put_varbytes(dest: &mut [u8], at: usize, value: &[u8]) -> WriteAnswer {
     let (start, length) = (value.as_ptr(), value.len());
     unsafe { c::turgamysk_put_varbytes(dest.as_mut_ptr(), dest.len(), at, start, length) }

@@ -5,15 +5,15 @@ use Rattle.covenants.specs.Covenant.{opening}
 use Rattle.covenants.proofs.opened.Statement.{statement}
 use Rattle.covenants.proofs.opened.Tie as tie
 
-sub-beyond : tie.Need-sub-beyond
-sub-beyond c = search needs
+sub-cut : tie.Need-sub-cut
+sub-cut c = search needs
 
-beyond-requires : tie.Need-beyond-requires
-beyond-requires c κs = search needs
+cut-requires : tie.Need-cut-requires
+cut-requires c κs = search needs
 
 returns : tie.Need-returns
 unfolding inside opening
-returns c = rw (c .beyond .ensures .0, c .beyond .ensures .1, lt-ltb _ _ (c .before .if1 .taken))
+returns c = rw (c .cut .ensures .0, c .cut .ensures .1, lt-ltb _ _ (c .before .if1 .taken))
 
 too-large-requires : tie.Need-too-large-requires
 too-large-requires c κs = search needs
@@ -31,4 +31,4 @@ returns-3 c = rw (le-ltb _ _ (c .before .before .if1 .left), le-ltb _ _ (c .befo
 
 pub opened-spec : {M : Type 1} → statement M
 opened-spec =
-    tie.close (tie.spec sub-beyond beyond-requires returns too-large-requires returns-2 head-requires returns-3)
+    tie.close (tie.spec sub-cut cut-requires returns too-large-requires returns-2 head-requires returns-3)

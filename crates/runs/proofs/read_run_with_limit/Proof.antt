@@ -4,7 +4,7 @@ use native.Mathlib.Omega.{arith}
 use Prim.Native.Nat.{_-_}
 use lib.ListN.{length}
 use Rattle.refusal.proofs.Outcomes.{told}
-use Rattle.runs.specs.Paper.{stepPaper}
+use Rattle.runs.specs.Paper.{runStepPaper}
 use Rattle.runs.proofs.Running.{Running, begin, finish, moves, more}
 use Rattle.runs.proofs.Covenants.{Skim, skim-moves, skim-said}
 use Rattle.runs.proofs.read_run_with_limit.Statement.{statement}
@@ -29,22 +29,22 @@ enum-known-after : tie.Need-enum-known-after Inv-loop μ-loop
 enum-known-after c = search needs
 
 loop-less : tie.Need-loop-less Inv-loop μ-loop
-loop-less c = let m = moves _ _ (c .before .before .before .before .loop .inv) (skim-moves _ _ (omega arith)) (told stepPaper (c .before .before .before .next-with-limit .ensures) (c .before .after .given .1)) (omega arith) in omega arith
+loop-less c = let m = moves _ _ (c .before .before .before .before .loop .inv) (skim-moves _ _ (omega arith)) (told runStepPaper (c .before .before .before .next-with-limit .ensures) (c .before .after .given .1)) (omega arith) in omega arith
 
 loop-again : tie.Need-loop-again Inv-loop μ-loop
-loop-again c = more _ _ (c .before .before .before .before .loop .inv) (skim-moves _ _ (omega arith)) (told stepPaper (c .before .before .before .next-with-limit .ensures) (c .before .after .given .1)) (omega arith)
+loop-again c = more _ _ (c .before .before .before .before .loop .inv) (skim-moves _ _ (omega arith)) (told runStepPaper (c .before .before .before .next-with-limit .ensures) (c .before .after .given .1)) (omega arith)
 
 enum-known-count : tie.Need-enum-known-count Inv-loop μ-loop
 enum-known-count c = search needs
 
 returns : tie.Need-returns Inv-loop μ-loop
-returns c = finish _ _ (c .before .before .before .before .loop .inv) (told stepPaper (c .before .before .before .next-with-limit .ensures) (c .before .count .given .1)) ∙ skim-said _ _
+returns c = finish _ _ (c .before .before .before .before .loop .inv) (told runStepPaper (c .before .before .before .next-with-limit .ensures) (c .before .count .given .1)) ∙ skim-said _ _
 
 enum-known-stop : tie.Need-enum-known-stop Inv-loop μ-loop
 enum-known-stop c = search needs
 
 returns-2 : tie.Need-returns-2 Inv-loop μ-loop
-returns-2 c = finish _ _ (c .before .before .before .before .loop .inv) (told stepPaper (c .before .before .before .next-with-limit .ensures) (c .before .stop .given .1)) ∙ skim-said _ _
+returns-2 c = finish _ _ (c .before .before .before .before .loop .inv) (told runStepPaper (c .before .before .before .next-with-limit .ensures) (c .before .stop .given .1)) ∙ skim-said _ _
 
 pub read-run-with-limit-spec : {M : Type 1} → statement M
 read-run-with-limit-spec =

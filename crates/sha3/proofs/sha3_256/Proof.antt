@@ -11,7 +11,8 @@ use Rattle.sha3.proofs.Sponge.{left, left-all, absorbed-more, absorbed-
 use Rattle.sha3.proofs.sha3_256.Statement.{statement}
 use Rattle.sha3.proofs.sha3_256.Tie as tie
 
--- whole blocks are done, and to absorb what is left of the paddedMessage message gives what all of it gives from the start
+-- whole blocks are done, and to absorb what is left of the paddedMessage message gives what all of it gives from the
+-- start
 abbrev Inv-loop : tie.InvT-loop
 Inv-loop m s₀ at₀ s at =
     (at ≤ length m) × (at % 136 ≡ 0) × (absorbed keccakP 1088 (left m at) s (drop (8 * at) (paddedMessage m)) ≡ absorbed keccakP 1088 (left m 0) s₀ (paddedMessage m))

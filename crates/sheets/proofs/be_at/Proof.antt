@@ -3,8 +3,8 @@ use native.Mathlib.Omega.{arith}
 use mathlib.Core.Path.{_≡_, sym, _∙_}
 use Prim.Native.Nat.{_+_, _-_, _^_, _≤_, _<_}
 use lib.ListN.{take, drop, getD}
-use Rattle.sheets.specs.Sheet.{spell}
-use Rattle.sheets.proofs.Spelling.{spell-more, spell-none, grows, room}
+use Rattle.words.specs.Words.{spell}
+use Rattle.words.proofs.Be.{spell-more, spell-none, grows, room}
 use Rattle.sheets.proofs.be_at.Statement.{statement}
 use Rattle.sheets.proofs.be_at.Tie as tie
 

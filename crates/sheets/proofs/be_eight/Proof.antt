@@ -3,9 +3,8 @@ use native.Mathlib.Omega.{arith}
 use mathlib.Core.Path.{ap, _∙_}
 use Prim.Native.Nat.{ℕ}
 use lib.ListN.{take, drop}
-use Rattle.words.specs.Words.{bytes}
+use Rattle.words.specs.Words.{bytes, be}
 use Rattle.words.proofs.Le.{bytes-le, part-long, part-bytes}
-use Rattle.sheets.specs.Sheet.{be}
 use Rattle.sheets.proofs.be_eight.Statement.{statement}
 use Rattle.sheets.proofs.be_eight.Tie as tie
 

@@ -5,7 +5,7 @@ use Rattle.refusal.proofs.Outcomes.{told}
 use Rattle.refusal.proofs.Many.{many-long}
 use Rattle.encoding.specs.Paper.{movedPaper}
 use Rattle.sheets.specs.Sheet.{coinCounts, coinsAt}
-use Rattle.sheets.specs.Paper.{headPaper}
+use Rattle.sheets.specs.Paper.{sheetHeadPaper}
 use Rattle.sheets.proofs.Whole.{sheet-long, sheet-head, sheet-whole, sheet-cut}
 use Rattle.sheets.proofs.judge_coins.Statement.{statement}
 use Rattle.sheets.proofs.judge_coins.Tie as tie
@@ -43,15 +43,15 @@ refused-requires-2 c κs = search needs
 
 returns-2 : tie.Need-returns-2
 unfolding coinCounts coinsAt
-returns-2 c = sheet-whole _ _ _ _ (c .before .before .before .before .before .before .before .before .if1 .left) (told headPaper (c .before .before .before .before .before .before .before .head .ensures) (c .before .before .before .before .before .version .given .1)) (λ a p e. ap (λ (n : ℕ). (n, 0)) (many-long _ _ _ e)) ((rw (c .before .before .before .pass-coins .ensures) at (sym (c .before .before .ends .ensures))) ∙ ap movedPaper (c .enum-told .given .1))
+returns-2 c = sheet-whole _ _ _ _ (c .before .before .before .before .before .before .before .before .if1 .left) (told sheetHeadPaper (c .before .before .before .before .before .before .before .head .ensures) (c .before .before .before .before .before .version .given .1)) (λ a p e. ap (λ (n : ℕ). (n, 0)) (many-long _ _ _ e)) ((rw (c .before .before .before .pass-coins .ensures) at (sym (c .before .before .ends .ensures))) ∙ ap movedPaper (c .enum-told .given .1))
 
 returns-3 : tie.Need-returns-3
 unfolding coinCounts coinsAt
-returns-3 c = rw (c .refused .ensures) (sheet-cut _ _ _ _ (c .before .before .before .before .before .before .before .before .before .before .if1 .left) (told headPaper (c .before .before .before .before .before .before .before .before .before .head .ensures) (c .before .before .before .before .before .before .before .version .given .1)) ((rw (c .before .before .before .before .before .pass-coins .ensures) at (sym (c .before .before .before .before .ends .ensures))) ∙ ap movedPaper (c .before .before .stop .given .1)))
+returns-3 c = rw (c .refused .ensures) (sheet-cut _ _ _ _ (c .before .before .before .before .before .before .before .before .before .before .if1 .left) (told sheetHeadPaper (c .before .before .before .before .before .before .before .before .before .head .ensures) (c .before .before .before .before .before .before .before .version .given .1)) ((rw (c .before .before .before .before .before .pass-coins .ensures) at (sym (c .before .before .before .before .ends .ensures))) ∙ ap movedPaper (c .before .before .stop .given .1)))
 
 returns-4 : tie.Need-returns-4
 unfolding coinCounts coinsAt
-returns-4 c = rw (c .refused2 .ensures) (sheet-head _ _ _ _ (c .before .before .before .before .before .if1 .left) (told headPaper (c .before .before .before .before .head .ensures) (c .before .before .stop2 .given .1)))
+returns-4 c = rw (c .refused2 .ensures) (sheet-head _ _ _ _ (c .before .before .before .before .before .if1 .left) (told sheetHeadPaper (c .before .before .before .before .head .ensures) (c .before .before .stop2 .given .1)))
 
 pub judge-coins-spec : {M : Type 1} → statement M
 judge-coins-spec =

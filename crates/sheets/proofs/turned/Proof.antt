@@ -1,7 +1,6 @@
 use borrow.Author.Needs.{needs}
 use native.Mathlib.Omega.{arith}
-use Rattle.words.specs.Words.{bytes}
-use Rattle.sheets.specs.Sheet.{spell}
+use Rattle.words.specs.Words.{bytes, spell}
 use Rattle.sheets.proofs.turned.Statement.{statement}
 use Rattle.sheets.proofs.turned.Tie as tie
 

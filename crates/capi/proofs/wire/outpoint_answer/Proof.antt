@@ -1,38 +1,12 @@
 use borrow.Author.Needs.{needs}
-use native.Mathlib.Omega.{arith}
-use mathlib.Core.Path.{_≡_, refl, ap, sym, _∙_}
 use Rattle.capi.proofs.wire.outpoint_answer.Statement.{statement}
 use Rattle.capi.proofs.wire.outpoint_answer.Tie as tie
-use Rattle.capi.proofs.wire.outpoint_answer.Reads as reads
-use Rattle.capi.proofs.wire.outpoint_answer.Lts as lts
-use Rattle.refusal.proofs.carried_by.Reads as carried-by-reads
-use Rattle.refusal.proofs.number.Reads as number-reads
 
-enum-known-moved : tie.Need-enum-known-moved
-enum-known-moved c = search needs
-
-enum-known-moved-2 : tie.Need-enum-known-moved-2
-enum-known-moved-2 c = search needs
-
-carried-by-requires : tie.Need-carried-by-requires
-carried-by-requires c κs = search needs
-
-number-requires : tie.Need-number-requires
-number-requires c κs = search needs
+moved-answer-requires : tie.Need-moved-answer-requires
+moved-answer-requires c κs = search needs
 
 returns : tie.Need-returns
-returns c = rw (c .before .moved .given .1)
-
-returns-2 : tie.Need-returns-2
-returns-2 c = rw (c .before .before .before .moved2 .given .1, c .number .ensures, c .before .carried-by .ensures)
+returns c = rw (c .moved-answer .ensures)
 
 pub outpoint-answer-spec : {M : Type 1} → statement M
-outpoint-answer-spec =
-    tie.close
-    (tie.spec
-    enum-known-moved
-    enum-known-moved-2
-    carried-by-requires
-    number-requires
-    returns
-    returns-2)
+outpoint-answer-spec = tie.close (tie.spec moved-answer-requires returns)

@@ -1,12 +1,12 @@
 use borrow.Author.Needs.{needs}
 use native.Mathlib.Omega.{arith}
 use mathlib.Core.Path.{_≡_, refl, ap, sym, _∙_}
-use Rattle.capi.specs.Reading.{movedFlat}
+use Rattle.capi.specs.Flat.{movedFlat}
 use Rattle.capi.proofs.wire.turgamysk_finish.Statement.{statement}
 use Rattle.capi.proofs.wire.turgamysk_finish.Tie as tie
 use Rattle.capi.proofs.wire.turgamysk_finish.Reads as reads
 use Rattle.capi.proofs.wire.turgamysk_finish.Lts as lts
-use Rattle.capi.proofs.wire.moved_answer.Reads as moved-answer-reads
+use Rattle.capi.proofs.moved_answer.Reads as moved-answer-reads
 use Rattle.encoding.proofs.read.Cursor.finish.Reads as finish-reads
 
 finish-requires : tie.Need-finish-requires

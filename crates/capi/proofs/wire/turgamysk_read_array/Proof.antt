@@ -4,12 +4,12 @@ use mathlib.Core.Path.{_≡_, refl, ap, sym, _∙_}
 use Prim.Native.Nat.{ℕ}
 use mathlib.Core.List.{List}
 use Rattle.refusal.specs.Outcome.{Outcome}
-use Rattle.capi.specs.Reading.{movedFlat}
+use Rattle.capi.specs.Flat.{movedFlat}
 use Rattle.capi.proofs.wire.turgamysk_read_array.Statement.{statement}
 use Rattle.capi.proofs.wire.turgamysk_read_array.Tie as tie
 use Rattle.capi.proofs.wire.turgamysk_read_array.Reads as reads
 use Rattle.capi.proofs.wire.turgamysk_read_array.Lts as lts
-use Rattle.capi.proofs.wire.moved_answer.Reads as moved-answer-reads
+use Rattle.capi.proofs.moved_answer.Reads as moved-answer-reads
 use Rattle.encoding.proofs.read.Cursor.read_array.Reads as read-array-reads
 
 read-array-requires : tie.Need-read-array-requires

@@ -5,7 +5,7 @@ use Prim.Native.Nat.{_+_, _≤_}
 use lib.ListN.{length}
 use borrow.Author.Tests.{leb-true, leb-false}
 use Rattle.covenants.specs.Paper.{spotPaper}
-use Rattle.covenants.specs.Items.{wide, numberIn}
+use Rattle.covenants.specs.Items.{ofWidth, numberIn}
 use Rattle.covenants.proofs.Places.{number-other, number-loaded, number-outside}
 use Rattle.covenants.proofs.items.number.Statement.{statement}
 use Rattle.covenants.proofs.items.number.Tie as tie
@@ -44,7 +44,7 @@ returns-3 : tie.Need-returns-3
 returns-3 c = sym ((ap (λ i. numberIn (c .before .before .before .before .before .before .before .args .width) (c .before .before .before .before .before .before .before .args .s .now) (spotPaper i)) (c .before .before .before .before .item .given .1)) ∙ number-outside _ _ _ _ (c .before .before .if1 .left) (leb-false _ _ (sym (c .before .has-room .ensures) ∙ c .if2 .left)))
 
 returns-4 : tie.Need-returns-4
-unfolding numberIn wide
+unfolding numberIn ofWidth
 returns-4 c = rw (c .enum-told .given .1)
 
 pub number-spec : {M : Type 1} → statement M

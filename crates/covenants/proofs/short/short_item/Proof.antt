@@ -6,7 +6,6 @@ use Rattle.covenants.proofs.short.short_item.Statement.{statement}
 use Rattle.covenants.proofs.short.short_item.Tie as tie
 use Rattle.covenants.proofs.short.short_item.Reads as reads
 use Rattle.covenants.proofs.short.short_item.Lts as lts
-use Rattle.covenants.proofs.short.wide.Reads as wide-reads
 
 returns : tie.Need-returns
 returns c = no-item
@@ -26,8 +25,8 @@ returns-3 c = no-item
 add-next : tie.Need-add-next
 add-next c = search needs
 
-wide-requires : tie.Need-wide-requires
-wide-requires c κs = search needs
+cast-next : tie.Need-cast-next
+cast-next c = search needs
 
 add-next-2 : tie.Need-add-next-2
 add-next-2 c = search needs
@@ -45,6 +44,6 @@ short-item-spec =
     returns-2
     returns-3
     add-next
-    wide-requires
+    cast-next
     add-next-2
     returns-4)

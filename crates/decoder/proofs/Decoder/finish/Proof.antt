@@ -1,5 +1,8 @@
--- `decoder::Decoder::finish` meets its contract: a walk of its MIR, by hand. The struct is taken apart, and the cursor's `finish` is called on a cursor at its position and on its slice. All that the proof knows of that `finish` is that it meets its contract.
--- The struct is Copy: what it owns is had twice, one copy is kept whole for the exit, and of the other what input owns goes to the callee, beside the lifetime's token, which comes back.
+-- `decoder::Decoder::finish` meets its contract: a walk of its MIR, by hand. The struct is taken apart, and the
+-- cursor's `finish` is called on a cursor at its position and on its slice. All that the proof knows of that `finish`
+-- is that it meets its contract.
+-- The struct is Copy: what it owns is had twice, one copy is kept whole for the exit, and of the other what input owns
+-- goes to the callee, beside the lifetime's token, which comes back.
 -- Assumes nothing.
 use mathlib.Core.Path.{_≡_, refl}
 use Prim.Native.Nat.{_<_, _^_}

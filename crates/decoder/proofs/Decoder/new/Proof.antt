@@ -1,5 +1,7 @@
--- `decoder::Decoder::new` meets its contract: a walk of its MIR, by hand. A `Decoder` is made of the slice passed and 0, in the result's local.
--- A `&[u8]` is Copy, so what it owns is had twice: once for input at exit, and once inside the result, beside the facts of position.
+-- `decoder::Decoder::new` meets its contract: a walk of its MIR, by hand. A `Decoder` is made of the slice passed and
+-- 0, in the result's local.
+-- A `&[u8]` is Copy, so what it owns is had twice: once for input at exit, and once inside the result, beside the facts
+-- of position.
 -- Assumes nothing.
 use mathlib.Core.Path.{refl}
 use Prim.Native.Nat.{ℕ}

@@ -1,5 +1,10 @@
--- `decoder::Decoder::read_slice` meets its contract: a walk of its MIR, by hand. The borrow is opened, which gives the struct's cell and what the struct owns; the cursor's `read_slice` is called on a cursor at the position and on the slice; what `after_span` says of the answer is stored as the position; and the borrow is closed at the struct with that position.
--- All that the proof knows of the two callees is that each meets its contract. The struct is Copy: of one copy of what it owns the slice's part goes to the cursor's function, beside the token of 'a, which comes back; the other is put back with the new position (`again`). The answer is Copy too: it is passed to `after_span`, and returned.
+-- `decoder::Decoder::read_slice` meets its contract: a walk of its MIR, by hand. The borrow is opened, which gives the
+-- struct's cell and what the struct owns; the cursor's `read_slice` is called on a cursor at the position and on the
+-- slice; what `after_span` says of the answer is stored as the position; and the borrow is closed at the struct with
+-- that position.
+-- All that the proof knows of the two callees is that each meets its contract. The struct is Copy: of one copy of what
+-- it owns the slice's part goes to the cursor's function, beside the token of 'a, which comes back; the other is put
+-- back with the new position (`again`). The answer is Copy too: it is passed to `after_span`, and returned.
 -- Assumes nothing.
 use mathlib.Core.Path.{_≡_, refl, ap}
 use Prim.Native.Nat.{ℕ, _<_, _^_}
@@ -139,7 +144,8 @@ module _ {M : Type 1} (𝓤 : URA M) (H : Heap 𝓤) (A : Atoms 𝓤) (W : Given
         opens ! tt (B κ′) {h = h} b o (λ vs. spelt ! (B κ′) (Is (B κ′)) (shows 𝓤 H A (B κ′)) (LL.vals (D κ′) (L κ′)) (LL.tells (D κ′) (L κ′)) fullShare h vs b o $
         use1 W (‵ (fat fullShare (T′.mir erased) b o (T′.lowered h))) (W .laws .raw-at fullShare (T′.mir erased) b o (T′.lowered h)) $
         move ! (1 ∷ []) $ peeks ! (B κ′) (Is (B κ′)) (shows 𝓤 H A (B κ′)) h (T′.lowered h ∷ []) (λ was. move ! (1 ∷ 0 ∷ []) $
-        -- [the struct's cell; what a Decoder owns; the open borrow; obs; auth; the token of 'a; n's; _6; …; _5; …; _4; …; _3; …; _2; …; _1; …; room for _0; …]
+        -- [the struct's cell; what a Decoder owns; the open borrow; obs; auth; the token of 'a; n's; _6; …; _5; …; _4;
+        -- …; _3; …; _2; …; _1; …; room for _0; …]
         assigns ! (of-opd ! (load ! (from ! (hop ! (look ! 17 refl) (fld ! refl (stop !)))) (look-in ! 0 (sub ! 1 refl (whole !))))) (from ! (stop !)) (init ! 9 refl (tt, typed 𝓤 H A W (α κ′) h was .1 .1 .0)) $
         assigns ! (agg ! (and-then ! (load ! (from ! (stop !)) (look ! 9 refl)) (no-more !))) (from ! (stop !)) (init ! 13 refl (tt, (typed 𝓤 H A W (α κ′) h was .1 .1 .0, tt))) $
         assigns ! (of-opd ! (load ! (from ! (hop ! (look ! 17 refl) (fld ! refl (stop !)))) (look-in ! 0 (sub ! 0 refl (whole !))))) (from ! (stop !)) (init ! 7 refl (tt, typed 𝓤 H A W (α κ′) h was .1 .0)) $
@@ -149,7 +155,8 @@ module _ {M : Type 1} (𝓤 : URA M) (H : Heap 𝓤) (A : Atoms 𝓤) (W : Given
         move ! (1 ∷ []) $ drop ! $ nothing ! $ owned ! usize (Is usize) (uint-makes 𝓤 H A W w64) n _ (refl, n-fits) $ fjoin ! $ move ! (1 ∷ 0 ∷ []) $ fjoin ! $
         nothing ! $ owned ! usize (Is usize) (uint-makes 𝓤 H A W w64) (h .position) _ (refl, typed 𝓤 H A W (α κ′) h was .1 .1 .0 .fits) $ fjoin ! $ use1 W (‵ (K.the-row .own (cursor h) (cursor-val h ∷ []))) (own-shut 𝓤 H A W K.the-type K′.the-laws (h .position, tt)) $ fjoin ! $
         move ! (6 ∷ 0 ∷ []) $ use2 W (raw (AtCursor 𝓤 H A at-mem run .pre to-cursor)) goes-cursor $
-        -- [what it asks; what a Decoder owns; the cell; the open borrow; obs; auth; n's; _6; …; _5; …; _4; …; _3; …; _2; …; _1; …; room for _0; …]
+        -- [what it asks; what a Decoder owns; the cell; the open borrow; obs; auth; n's; _6; …; _5; …; _4; …; _3; …;
+        -- _2; …; _1; …; room for _0; …]
         calls-at ! fm (AtCursor 𝓤 H A at-mem run) known-cursor to-cursor (and-then ! (load ! (from ! (stop !)) (look ! 13 refl)) (and-then ! (load ! (from ! (stop !)) (look ! 7 refl)) (and-then ! (load ! (from ! (stop !)) (look ! 15 refl)) (no-more !)))) (λ u.
         use1 W (later (some (λ (r : ReadSpan). ((‵ (flft κ′ q′) ⊛ ‵ ftrue) ⊛ ‵ (S.the-row .own r (u ∷ []))) ⊛ raw (ensured 𝓤 H A at-cursor.ended (at-cursor.clauses 𝓤 H A at-mem run) (κ′, tt) (cursor h, (h .input, (n, tt))) tt r)))) (id⊢ 𝓤 _) $ await ! tt $ pick ! (λ r.
         split ! $ move ! (1 ∷ []) $ use1 W (raw (fact 𝓤 (Says r))) (cursor-said r) $ heard ! (Says r) (λ e. split ! $ move ! (1 ∷ []) $
@@ -162,7 +169,8 @@ module _ {M : Type 1} (𝓤 : URA M) (H : Heap 𝓤) (A : Atoms 𝓤) (W : Given
         calls-at ! fm (Place 𝓤 H A at-mem run) known-place (to-place r u) (and-then ! (load ! (from ! (stop !)) (look ! 13 refl)) (no-more !)) (λ w.
         use1 W (later (some (λ (p : ℕ). (‵ ftrue ⊛ ‵ (usize .own p (w ∷ []))) ⊛ raw (ensured 𝓤 H A place.ended (place.clauses 𝓤 H A at-mem run) tt (r, tt) tt p)))) (id⊢ 𝓤 _) $ await ! tt $ pick ! (λ p.
         split ! $ move ! (1 ∷ []) $ use1 W (raw (fact 𝓤 (p ≡ stands (spanPaper r)))) (place-said r p) $ heard ! (p ≡ stands (spanPaper r)) (λ e′. split ! $ drop ! $
-        -- [the position; the answer; the token of 'a; what a Decoder owns; the cell; the open borrow; obs; auth; n's; _6; …; _5; …; _4; …; _3; …; _2; …; _1; …; room for _0; …]
+        -- [the position; the answer; the token of 'a; what a Decoder owns; the cell; the open borrow; obs; auth; n's;
+        -- _6; …; _5; …; _4; …; _3; …; _2; …; _1; …; room for _0; …]
         peeks ! usize (Is usize) (shows 𝓤 H A usize) p (w ∷ []) (λ is′.
         land ! (from ! (stop !)) (store ! 11 refl (uint-lawful 𝓤 H A W w64 .typed p _ is′ .0)) $ rewrite ! 11 (λ (z : Val). ‵ (fat fullShare (tyInt w64) l₅ 0 z)) (ap only (is′ .0)) refl $
         assigns ! (of-opd ! (load ! (from ! (stop !)) (look ! 11 refl))) (from ! (hop ! (look ! 19 refl) (fld ! refl (stop !)))) (store-in ! 4 (sub ! 1 refl (whole !)) (tt, record { fits = is′ .1 })) $
@@ -171,7 +179,8 @@ module _ {M : Type 1} (𝓤 : URA M) (H : Heap 𝓤) (A : Atoms 𝓤) (W : Given
         drop ! $ move ! (2 ∷ []) $ use1 W (‵ (Own κ′ h p)) (again 𝓤 H A W κ′ h p (is′ .1)) $
         move ! (3 ∷ []) $ use1 W (‵ (cellAt fullShare ((B κ′) .mir) (T′.lowered (moved h p) ∷ []) b o)) (W .laws .at-raw fullShare (T′.mir erased) b o (T′.lowered (moved h p))) $
         move ! (0 ∷ 1 ∷ 4 ∷ 5 ∷ 6 ∷ []) $ closes ! tt (B κ′) (moved h p) (T′.lowered (moved h p) ∷ []) b o $
-        -- [obs; the borrow; its token; the answer; the token of 'a; n's; _6; …; _5; …; _4; …; _3; …; _2; …; _1; …; _0; …]
+        -- [obs; the borrow; its token; the answer; the token of 'a; n's; _6; …; _5; …; _4; …; _3; …; _2; …; _1; …; _0;
+        -- …]
         returns ! (look ! 18 refl) $ forget ! 6 refl $ forget ! 8 refl $ forget ! 10 refl $ forget ! 12 refl $ forget ! 14 refl $ forget ! 16 refl $ forget ! 18 refl $
         move ! (18 ∷ 19 ∷ []) $ free1 ! $ move ! (16 ∷ 17 ∷ []) $ free1 ! $ move ! (14 ∷ 15 ∷ []) $ free1 ! $ move ! (12 ∷ 13 ∷ []) $ free1 ! $ move ! (10 ∷ 11 ∷ []) $ free1 ! $ move ! (8 ∷ 9 ∷ []) $ free1 ! $ move ! (6 ∷ 7 ∷ []) $ free1 ! $ free0 ! $
         keep ! (0 ∷ 1 ∷ 2 ∷ 3 ∷ 4 ∷ []) $ by ! (exits r u p e e′)))))))))))))))))))

@@ -9,7 +9,7 @@ use Rattle.encoding.proofs.read.le_at.Statement.{statement}
 use Rattle.encoding.proofs.read.le_at.Tie as tie
 use Rattle.encoding.proofs.read.le_at.Reads as reads
 use Rattle.encoding.proofs.read.le_at.Lts as lts
-use Rattle.encoding.proofs.read.wide.Reads as wide-reads
+use Rattle.words.proofs.load.wide.Reads as wide-reads
 
 abbrev Inv-loop : tie.InvT-loop
 Inv-loop s at n v₀ i₀ v i = (i ≤ n) × (v ≡ le (take (n - i) (drop (at + i) s)))

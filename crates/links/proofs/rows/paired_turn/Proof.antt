@@ -1,5 +1,5 @@
 use borrow.Author.Needs.{needs}
-use Rattle.links.proofs.Judging.{in-row}
+use Rattle.links.specs.Rules.{rule}
 use Rattle.links.proofs.rows.paired_turn.Statement.{statement}
 use Rattle.links.proofs.rows.paired_turn.Tie as tie
 
@@ -25,13 +25,16 @@ named-turn-requires : tie.Need-named-turn-requires
 named-turn-requires c κs = search needs
 
 returns : tie.Need-returns
-returns c = rw (← in-row _ _ _, ← c .before .before .before .before .row-of .ensures, ← c .before .before .before .pair-row .ensures, c .before .refusal .given .1)
+unfolding rule
+returns c = rw (← c .before .before .before .before .row-of .ensures, ← c .before .before .before .pair-row .ensures, c .before .refusal .given .1)
 
 returns-2 : tie.Need-returns-2
-returns-2 c = rw (← in-row _ _ _, ← c .before .before .before .before .row-of .ensures, ← c .before .before .before .pair-row .ensures, c .before .enum-told .given .1) (c .free-turn .ensures _ _ _)
+unfolding rule
+returns-2 c = rw (← c .before .before .before .before .row-of .ensures, ← c .before .before .before .pair-row .ensures, c .before .enum-told .given .1) (c .free-turn .ensures _ _ _)
 
 returns-3 : tie.Need-returns-3
-returns-3 c = rw (← in-row _ _ _, ← c .before .before .before .before .before .row-of .ensures, ← c .before .before .before .before .pair-row .ensures, c .before .before .rest .given .1) (c .named-turn .ensures _)
+unfolding rule
+returns-3 c = rw (← c .before .before .before .before .before .row-of .ensures, ← c .before .before .before .before .pair-row .ensures, c .before .before .rest .given .1) (c .named-turn .ensures _)
 
 pub paired-turn-spec : {M : Type 1} → statement M
 paired-turn-spec =

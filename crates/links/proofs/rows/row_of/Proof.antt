@@ -1,5 +1,5 @@
 use mathlib.Core.Path.{ap, sym}
-use Rattle.links.specs.Workers.{rowOf}
+use Rattle.links.specs.Rules.{rowOf}
 use borrow.Author.Tests.{ne-eqb}
 use Rattle.links.proofs.rows.row_of.Statement.{statement}
 use Rattle.links.proofs.rows.row_of.Tie as tie

@@ -1,12 +1,12 @@
 use mathlib.Core.Path.{refl}
-use Rattle.words.specs.Buffers.{padded}
+use Rattle.words.specs.Buffers.{zeroPadded}
 use Rattle.name_state.proofs.NameState.null.Statement.{statement}
 use Rattle.name_state.proofs.NameState.null.Tie as tie
 use Rattle.name_state.proofs.NameState.null.Reads as reads
 use Rattle.name_state.proofs.NameState.null.Lts as lts
 
 returns : tie.Need-returns
-unfolding padded
+unfolding zeroPadded
 returns c = refl
 
 pub null-spec : {M : Type 1} → statement M

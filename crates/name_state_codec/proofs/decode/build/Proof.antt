@@ -3,7 +3,7 @@ use native.Mathlib.Omega.{arith}
 use mathlib.Core.Path.{sym}
 use Rattle.words.proofs.Le.{part-long}
 use Rattle.name_state_codec.specs.Read.{gathered}
-use Rattle.name_state_codec.specs.Workers.{gatheredOf}
+use Rattle.name_state_codec.specs.Workers.{said, gatheredOf}
 use Rattle.name_state_codec.proofs.Stored.{stored-made, padded-part}
 use Rattle.name_state_codec.proofs.decode.build.Statement.{statement}
 use Rattle.name_state_codec.proofs.decode.build.Tie as tie
@@ -50,10 +50,11 @@ put-bytes-requires-2 c κs = search needs
 returns : tie.Need-returns
 unfolding gathered
 returns c =
-    let a = c .before .before .before .before .before .before .before .before .before .before .before .before .before .before .before .before .args in
-    stored-made (gatheredOf (a .key) (a .s .now) (a .texts) (a .numbers) (a .owner) (a .amounts) (a .times))
-    (padded-part (a .s .now) (a .texts .«name_at») (a .texts .«name_length») 63 (omega (arith, c .before .before .before .before .before .before .before .before .before .before .before .before .before .before .before .before .pre)) (omega (arith, c .before .before .before .before .before .before .before .before .before .before .before .before .before .before .before .before .pre)) (c .before .before .before .before .before .before .before .before .before .before .before .before .put-bytes .ensures .1)) (sym (part-long (a .s .now) (a .texts .«name_at») (a .texts .«name_length») (omega (arith, c .before .before .before .before .before .before .before .before .before .before .before .before .before .before .before .before .pre))))
-    (padded-part (a .s .now) (a .texts .«resource_at») (a .texts .«resource_length») 512 (omega (arith, c .before .before .before .before .before .before .before .before .before .before .before .before .before .before .before .before .pre)) (omega (arith, c .before .before .before .before .before .before .before .before .before .before .before .before .before .before .before .before .pre)) (c .before .before .before .before .before .before .before .before .put-bytes2 .ensures .1)) (sym (part-long (a .s .now) (a .texts .«resource_at») (a .texts .«resource_length») (omega (arith, c .before .before .before .before .before .before .before .before .before .before .before .before .before .before .before .before .pre))))
+    let a = c .before .before .before .before .before .before .before .before .before .before .before .before .before .before .before .before .before .args in
+    let h = c .before .before .before .before .before .before .before .before .before .before .before .before .before .before .before .before .before .pre in
+    stored-made (gatheredOf (a .key .0) (a .s .now) (said (a .fields)))
+    (padded-part (a .s .now) (a .fields .«name_at») (a .fields .«name_length») 63 (omega (arith, h)) (omega (arith, h)) (c .before .before .before .before .before .before .before .before .before .before .before .before .before .put-bytes .ensures .1)) (sym (part-long (a .s .now) (a .fields .«name_at») (a .fields .«name_length») (omega (arith, h))))
+    (padded-part (a .s .now) (a .fields .«resource_at») (a .fields .«resource_length») 512 (omega (arith, h)) (omega (arith, h)) (c .before .before .before .before .before .before .before .before .before .put-bytes2 .ensures .1)) (sym (part-long (a .s .now) (a .fields .«resource_at») (a .fields .«resource_length») (omega (arith, h))))
 
 pub build-spec : {M : Type 1} → statement M
 build-spec =

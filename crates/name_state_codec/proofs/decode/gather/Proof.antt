@@ -26,8 +26,8 @@ returns : tie.Need-returns
 unfolding gathered
 returns c =
     let a = c .before .before .before .before .before .args in
-    let n = part-long (a .s .now) (a .texts .«name_at») (a .texts .«name_length») (omega (arith, c .before .before .before .before .before .pre)) in
-    let m = part-long (a .s .now) (a .texts .«resource_at») (a .texts .«resource_length») (omega (arith, c .before .before .before .before .before .pre)) in
+    let n = part-long (a .s .now) (a .fields .«name_at») (a .fields .«name_length») (omega (arith, c .before .before .before .before .before .pre)) in
+    let m = part-long (a .s .now) (a .fields .«resource_at») (a .fields .«resource_length») (omega (arith, c .before .before .before .before .before .pre)) in
     rw (c .enum-told .given .1) (judged-told _ _ _ _ (c .before .before .before .build .ensures) (omega (arith, n, c .before .before .before .before .before .pre)) (omega (arith, m, c .before .before .before .before .before .pre)) (told movedPaper (c .before .before .judge .ensures) (c .enum-told .given .1)))
 
 enum-known-read : tie.Need-enum-known-read
@@ -40,8 +40,8 @@ returns-2 : tie.Need-returns-2
 unfolding gathered
 returns-2 c =
     let a = c .before .before .before .before .before .before .before .args in
-    let n = part-long (a .s .now) (a .texts .«name_at») (a .texts .«name_length») (omega (arith, c .before .before .before .before .before .before .before .pre)) in
-    let m = part-long (a .s .now) (a .texts .«resource_at») (a .texts .«resource_length») (omega (arith, c .before .before .before .before .before .before .before .pre)) in
+    let n = part-long (a .s .now) (a .fields .«name_at») (a .fields .«name_length») (omega (arith, c .before .before .before .before .before .before .before .pre)) in
+    let m = part-long (a .s .now) (a .fields .«resource_at») (a .fields .«resource_length») (omega (arith, c .before .before .before .before .before .before .before .pre)) in
     rw (c .refused .ensures .0, c .refused .ensures .1) (judged-told _ _ _ _ (c .before .before .before .before .before .build .ensures) (omega (arith, n, c .before .before .before .before .before .before .before .pre)) (omega (arith, m, c .before .before .before .before .before .before .before .pre)) (told movedPaper (c .before .before .before .before .judge .ensures) (c .before .before .read .given .1)))
 
 pub gather-spec : {M : Type 1} → statement M

@@ -11,11 +11,11 @@ returns c = output-none _ (omega arith) (c .before .before .pre) _ _ (c .if1 .ta
 ledger-requires : tie.Need-ledger-requires
 ledger-requires c κs = search needs
 
-item-behind-requires : tie.Need-item-behind-requires
-item-behind-requires c κs = search needs
+item-after-requires : tie.Need-item-after-requires
+item-after-requires c κs = search needs
 
 returns-2 : tie.Need-returns-2
-returns-2 c = (rw (c .before .ledger .ensures) at (c .item-behind .ensures)) ∙ output-there _ (omega arith) (c .before .before .before .before .pre) _ _ (c .before .before .if1 .left)
+returns-2 c = (rw (c .before .ledger .ensures) at (c .item-after .ensures)) ∙ output-there _ (omega arith) (c .before .before .before .before .pre) _ _ (c .before .before .if1 .left)
 
 pub output-item-spec : {M : Type 1} → statement M
-output-item-spec = tie.close (tie.spec returns ledger-requires item-behind-requires returns-2)
+output-item-spec = tie.close (tie.spec returns ledger-requires item-after-requires returns-2)

@@ -7,7 +7,7 @@ use Rattle.encoding.proofs.read.Cursor.read_compact_size.Tie as tie
 use Rattle.encoding.proofs.read.Cursor.read_compact_size.Reads as reads
 use Rattle.encoding.proofs.read.Cursor.read_compact_size.Lts as lts
 use Rattle.encoding.proofs.read.Cursor.longer_compact.Reads as longer-compact-reads
-use Rattle.encoding.proofs.read.wide.Reads as wide-reads
+use Rattle.words.proofs.load.wide.Reads as wide-reads
 
 longer-compact-requires : tie.Need-longer-compact-requires
 longer-compact-requires c κs = λ h. omega arith
