@@ -1,4 +1,6 @@
 // BLAKE2b (RFC 7693), with no key and a result of 32 bytes.
+#![tactic(auto)]
+
 ghost use Rattle.std.specs.Prelude.{◌≡◌, ℕ, ◌+◌, ◌%◌, ◌^◌, ◌<◌, ◌≤◌, ◌++◌, drop, slice_index};
 ghost use Rattle.words.specs.Words.{bytes, lanes};
 ghost use Rattle.blake2b.specs.Blake2b.{iv, half, word, cols, diags, rounds, flagged, start, folded, F, first, digest, blake2b};

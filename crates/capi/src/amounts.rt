@@ -7,7 +7,7 @@ use primitives::{Checked, Dollarydoos};
 
 // The amount (`outcome` 0), or why there is none: 1 for an overflow, 2 for an underflow.
 #[repr(C)]
-#[derive(Drop)]
+#[derive(Clone, Copy)]
 pub struct AmountAnswer {
     pub outcome: u8,
     pub value: u64,

@@ -24,7 +24,7 @@ use runs::{Run, RunEnd, Step, read_run, read_run_with_limit};
 
 // A covenant of a run, or how the run ended; and how many covenants there were up to here.
 #[repr(C)]
-#[derive(Drop)]
+#[derive(Clone, Copy)]
 pub struct StepAnswer {
     pub stop: FlatStop,
     pub ended: bool,
@@ -36,7 +36,7 @@ pub struct StepAnswer {
 
 // How a run ended, and how many covenants it had.
 #[repr(C)]
-#[derive(Drop)]
+#[derive(Clone, Copy)]
 pub struct RunAnswer {
     pub stop: FlatStop,
     pub covenants: usize,
@@ -44,7 +44,7 @@ pub struct RunAnswer {
 
 // The number that an item spells, if it has the width.
 #[repr(C)]
-#[derive(Drop)]
+#[derive(Clone, Copy)]
 pub struct ItemAnswer {
     pub exists: bool,
     pub value: u64,

@@ -67,7 +67,7 @@ pub extern "C" fn turgamysk_blake2b_256_value_nonce(
 // What a call that reads says beside what it read: 0, or the refusal's number and up to three of what it carries; and
 // where the reader then stands.
 #[repr(C)]
-#[derive(Drop)]
+#[derive(Clone, Copy)]
 pub struct FlatStop {
     pub number: u8,
     pub first: usize,
@@ -78,7 +78,7 @@ pub struct FlatStop {
 
 // A covenant that was read, or the refusal.
 #[repr(C)]
-#[derive(Drop)]
+#[derive(Clone, Copy)]
 pub struct CovenantAnswer {
     pub stop: FlatStop,
     pub kind: u8,
@@ -88,7 +88,7 @@ pub struct CovenantAnswer {
 
 // How many bytes were written, or the refusal.
 #[repr(C)]
-#[derive(Drop)]
+#[derive(Clone, Copy)]
 pub struct WriteAnswer {
     pub number: u8,
     pub first: usize,

@@ -11,7 +11,7 @@ use refusal::Stop;
 
 // The summary, or the refusal, with the side where it is a sheet's, and with both outpoints of 12.
 #[repr(C)]
-#[derive(Drop)]
+#[derive(Clone, Copy)]
 pub struct LinksAnswer {
     pub stop: FlatStop,
     pub side: u8,

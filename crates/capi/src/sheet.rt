@@ -16,7 +16,7 @@ use sheets::{ReadPlace, SheetRead, input_at, judge_coins, judge_transaction, pla
 
 // How many inputs (or coins) and outputs a sheet has, or the refusal and which sheet that is.
 #[repr(C)]
-#[derive(Drop)]
+#[derive(Clone, Copy)]
 pub struct SheetAnswer {
     pub stop: FlatStop,
     pub side: u8,
@@ -27,7 +27,7 @@ pub struct SheetAnswer {
 // An output that was read: its value, its address's version and where the address's bytes stand, where its covenant
 // begins, and its kind. Or the refusal.
 #[repr(C)]
-#[derive(Drop)]
+#[derive(Clone, Copy)]
 pub struct PlaceAnswer {
     pub stop: FlatStop,
     pub value: u64,
@@ -40,7 +40,7 @@ pub struct PlaceAnswer {
 
 // Where an item stands in the sheet of its side.
 #[repr(C)]
-#[derive(Drop)]
+#[derive(Clone, Copy)]
 pub struct ViewAnswer {
     pub exists: bool,
     pub offset: usize,

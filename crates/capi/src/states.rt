@@ -58,7 +58,7 @@ pub extern "C" fn turgamysk_blind_bid(value: u64, nonce: &[u8; 32], digest: &mut
 
 // A state that was read, or the refusal, and then zeros for a state.
 #[repr(C)]
-#[derive(Drop)]
+#[derive(Clone, Copy)]
 pub struct StateAnswer {
     pub stop: FlatStop,
     pub state: NameState,
@@ -66,7 +66,7 @@ pub struct StateAnswer {
 
 // The current owner (`held`), or that there is none, and then zeros for it.
 #[repr(C)]
-#[derive(Drop)]
+#[derive(Clone, Copy)]
 pub struct OwnerAnswer {
     pub held: bool,
     pub outpoint: Outpoint,

@@ -21,7 +21,7 @@ use refusal::Stop;
 
 // A number that was read, or the refusal.
 #[repr(C)]
-#[derive(Drop)]
+#[derive(Clone, Copy)]
 pub struct NumberAnswer {
     pub stop: FlatStop,
     pub value: u64,
@@ -29,7 +29,7 @@ pub struct NumberAnswer {
 
 // Where the bytes that were read stand, or the refusal.
 #[repr(C)]
-#[derive(Drop)]
+#[derive(Clone, Copy)]
 pub struct SpanAnswer {
     pub stop: FlatStop,
     pub start: usize,
@@ -38,7 +38,7 @@ pub struct SpanAnswer {
 
 // An outpoint that was read, or the refusal.
 #[repr(C)]
-#[derive(Drop)]
+#[derive(Clone, Copy)]
 pub struct OutpointAnswer {
     pub stop: FlatStop,
     pub outpoint: Outpoint,

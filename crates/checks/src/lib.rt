@@ -1,5 +1,7 @@
 // The checks of one input against its partner: what the rows of the link rules' table are made of. Each answers for any
 // two places.
+#![tactic(auto)]
+
 ghost use Rattle.std.specs.Prelude.{◌≡◌, [], ◌∷◌, ◌+◌, ◌≤◌, ◌<◌, min, length, eqb};
 ghost use Rattle.words.specs.Buffers.{pick};
 ghost use Rattle.words.specs.Sameness.{same};
@@ -22,21 +24,21 @@ use sheets::{Address, Place};
 use words::same::same_bytes;
 
 // An input passes, and its partner is linked or not; or it breaks a rule.
-#[derive(Drop)]
+#[derive(Clone, Copy)]
 pub enum Step {
     Passes(bool),
     Breaks(Refusal),
 }
 
 // The output of the same index, if there is one.
-#[derive(Drop)]
+#[derive(Clone, Copy)]
 pub enum Partner {
     Output(Place),
     Missing,
 }
 
 // Where an item of the width asked for stands.
-#[derive(Drop)]
+#[derive(Clone, Copy)]
 enum Sized {
     At(usize),
     Other,
@@ -44,7 +46,7 @@ enum Sized {
 
 // Where items 0 and 1 of a covenant stand, the name hash and the start height, and how long they are: zeros where there
 // is none.
-#[derive(Drop)]
+#[derive(Clone, Copy)]
 pub struct Items {
     pub name: usize,
     pub name_size: usize,
@@ -54,7 +56,7 @@ pub struct Items {
 
 // Where an item of the spent and of the created covenant stand, and their width; or the field of 15, for the one that
 // is malformed.
-#[derive(Drop)]
+#[derive(Clone, Copy)]
 pub enum Pair {
     At {
         spent: usize,
@@ -65,7 +67,7 @@ pub enum Pair {
 }
 
 // Where an item stands and how long it is.
-#[derive(Drop)]
+#[derive(Clone, Copy)]
 struct Reach {
     start: usize,
     len: usize,

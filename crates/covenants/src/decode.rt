@@ -11,7 +11,7 @@ use crate::{Covenant, ReadCovenant, ReadHead, capped, completed, opened, read_it
 use encoding::read::{Cursor, Moved, ReadSpan};
 
 // The answer of a decoder: what was read, and the covenant, all zeros where it was refused.
-#[derive(Drop)]
+#[derive(Clone, Copy)]
 pub struct Decoded {
     pub read: ReadCovenant,
     pub covenant: Covenant,

@@ -14,39 +14,39 @@ use words::load::load_u64;
 use words::store::has_room;
 
 // Where an item stands: the Rust's `Option<&[u8]>`.
-#[derive(Drop)]
+#[derive(Clone, Copy)]
 pub enum Spot {
     Part { start: usize, len: usize },
     Absent,
 }
 
-#[derive(Drop)]
+#[derive(Clone, Copy)]
 pub enum ItemU8 {
     Value(u8),
     Absent,
 }
 
-#[derive(Drop)]
+#[derive(Clone, Copy)]
 pub enum ItemU32 {
     Value(u32),
     Absent,
 }
 
-#[derive(Drop)]
+#[derive(Clone, Copy)]
 pub enum ItemU64 {
     Value(u64),
     Absent,
 }
 
 // Where the first item stands, and where the second does.
-#[derive(Drop)]
+#[derive(Clone, Copy)]
 pub struct Two {
     pub first: Spot,
     pub second: Spot,
 }
 
 // A name hash, zeros where there is none.
-#[derive(Drop)]
+#[derive(Clone, Copy)]
 pub struct ItemNameHash {
     pub found: bool,
     pub hash: NameHash,

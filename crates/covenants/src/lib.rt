@@ -1,4 +1,6 @@
 // Covenants of hns-covenants: a kind byte, a compact count, and items, each a compact length and its bytes.
+#![tactic(auto)]
+
 pub mod decode;
 pub mod items;
 pub mod kind;
@@ -19,7 +21,7 @@ use refusal::{Refusal, Stop};
 
 // A covenant as a flat directory over lent bytes: where each of at most 1,000 items starts and how long it is, and
 // zeros after them.
-#[derive(Drop)]
+#[derive(Clone, Copy)]
 pub struct Covenant {
     pub kind: u8,
     pub count: usize,
@@ -52,7 +54,7 @@ impl Covenant {
 }
 
 // A covenant that was read without its directory: `used` is the bytes used up from the allowance.
-#[derive(Drop)]
+#[derive(Clone, Copy)]
 pub enum ReadCovenant {
     Accepted {
         kind: u8,
@@ -64,7 +66,7 @@ pub enum ReadCovenant {
 }
 
 // The kind and the count, and the cursor at the first item.
-#[derive(Drop)]
+#[derive(Clone, Copy)]
 pub(crate) enum ReadHead {
     Head {
         kind: u8,

@@ -7,7 +7,7 @@ ghost use Rattle.covenants.specs.Covenant.{max_items, item_at};
 ghost use Rattle.covenants.specs.Workers.{Filling, ShortAt};
 
 // How far items were passed: how many of them, and where the next one stands.
-#[derive(Drop)]
+#[derive(Clone, Copy)]
 pub(crate) struct Reached {
     pub passed: usize,
     pub at: usize,
@@ -27,7 +27,7 @@ fn latest(length: usize, start: usize, allowance: usize) -> usize
 }
 
 // Whether the item at a place is short and ends in time, and then where the next one stands.
-#[derive(Drop)]
+#[derive(Clone, Copy)]
 struct Next {
     there: bool,
     at: usize,

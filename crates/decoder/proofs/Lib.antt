@@ -1,5 +1,3 @@
 pub mod Chain
-pub mod Lent
-pub mod Parts
 pub mod Theorems
 pub mod One

@@ -1,5 +1,7 @@
 // A reader that holds the lent bytes and a position in them, as the Rust's `Decoder<'input>` does: thin functions over
 // the cursor of `encoding`.
+#![tactic(auto)]
+
 ghost use Rattle.std.specs.Prelude.{◌≡◌};
 ghost use Rattle.refusal.specs.Outcome.{then, ok};
 ghost use Rattle.encoding.specs.Wire.{compact_most, slice_at, finish_at};
@@ -9,7 +11,7 @@ ghost use Rattle.decoder.specs.Workers.{size_in};
 
 use encoding::read::{Cursor, Moved, ReadSize, ReadSpan};
 
-#[derive(Drop)]
+#[derive(Clone, Copy)]
 pub struct Decoder<'a> {
     pub input: &'a [u8],
     pub position: usize,

@@ -10,7 +10,7 @@ use refusal::Refusal;
 use words::store::{has_room, put_le};
 
 // How many bytes were written, or why none was.
-#[derive(Drop)]
+#[derive(Clone, Copy)]
 pub enum Put {
     Written(usize),
     Refused(Refusal),

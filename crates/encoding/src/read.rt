@@ -11,13 +11,13 @@ use refusal::{Refusal, Stop};
 use words::load::wide;
 
 // A place in the lent bytes: the position of the Rust's `Decoder`, whose slice is a parameter here.
-#[derive(Drop)]
+#[derive(Clone, Copy)]
 pub struct Cursor {
     pub position: usize,
 }
 
 // A part of the lent bytes, by its start and length.
-#[derive(Drop)]
+#[derive(Clone, Copy)]
 pub enum ReadSpan {
     Span {
         start: usize,
@@ -27,45 +27,45 @@ pub enum ReadSpan {
     Refused(Stop),
 }
 
-#[derive(Drop)]
+#[derive(Clone, Copy)]
 pub enum ReadU8 {
     Value(u8, Cursor),
     Refused(Stop),
 }
 
-#[derive(Drop)]
+#[derive(Clone, Copy)]
 pub enum ReadU16 {
     Value(u16, Cursor),
     Refused(Stop),
 }
 
-#[derive(Drop)]
+#[derive(Clone, Copy)]
 pub enum ReadU32 {
     Value(u32, Cursor),
     Refused(Stop),
 }
 
-#[derive(Drop)]
+#[derive(Clone, Copy)]
 pub enum ReadU64 {
     Value(u64, Cursor),
     Refused(Stop),
 }
 
-#[derive(Drop)]
+#[derive(Clone, Copy)]
 pub enum ReadSize {
     Value(usize, Cursor),
     Refused(Stop),
 }
 
 // A read whose value is nothing, or stands beside this.
-#[derive(Drop)]
+#[derive(Clone, Copy)]
 pub enum Moved {
     To(Cursor),
     Refused(Stop),
 }
 
 // Thirty-two bytes, zeros where they were refused.
-#[derive(Drop)]
+#[derive(Clone, Copy)]
 pub struct ReadArray {
     pub moved: Moved,
     pub bytes: [u8; 32],

@@ -1,4 +1,6 @@
 // The link rules over two sheets: the Rust's `verify_covenant_links`.
+#![tactic(auto)]
+
 mod rows;
 mod walk;
 
@@ -13,7 +15,7 @@ use primitives::Outpoint;
 use refusal::Refusal;
 use sheets::{PairRead, judge_pair};
 
-#[derive(Drop)]
+#[derive(Clone, Copy)]
 pub struct CovenantLinkSummary {
     pub inputs_checked: usize,
     pub linked_outputs: usize,
@@ -21,14 +23,14 @@ pub struct CovenantLinkSummary {
 }
 
 // Every input passes, or the first refusal: of a sheet, with its side, or of a rule.
-#[derive(Drop)]
+#[derive(Clone, Copy)]
 pub enum Links {
     Linked(CovenantLinkSummary),
     Refused { refusal: Refusal, side: u8 },
 }
 
 // The answer, and beside it the outpoints of 12: the input's and the coin's.
-#[derive(Drop)]
+#[derive(Clone, Copy)]
 pub struct Verified {
     pub links: Links,
     pub expected: Outpoint,

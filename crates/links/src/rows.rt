@@ -17,7 +17,7 @@ use sheets::Place;
 
 // What is left of a row after name and start: nothing, where no output is linked or where one is; the address (21); 20;
 // the commitment; the destination.
-#[derive(Drop)]
+#[derive(Clone, Copy)]
 pub(crate) enum Rest {
     Unlinked,
     Linked,
@@ -28,7 +28,7 @@ pub(crate) enum Rest {
 }
 
 // A row up to name and start: it is broken, it passes without them, or they come next and then the rest.
-#[derive(Drop)]
+#[derive(Clone, Copy)]
 enum Gate {
     Breaks(Refusal),
     Passes,
@@ -37,7 +37,7 @@ enum Gate {
 
 // An input that stands before name and start: both outputs, items 0 and 1 of both, the first item to be compared (2
 // where none is), the rest of the row, and where the next coin and the next output stand.
-#[derive(Drop)]
+#[derive(Clone, Copy)]
 pub(crate) struct Turn {
     pub spent: Place,
     pub made: Place,
@@ -50,7 +50,7 @@ pub(crate) struct Turn {
 }
 
 // An input that goes on to name and start, or the rule that it breaks before them.
-#[derive(Drop)]
+#[derive(Clone, Copy)]
 pub(crate) enum Onward {
     Goes(Turn),
     Stop(Refusal),
@@ -218,7 +218,7 @@ fn unknown_row(input: usize, spent: Place, made: Place) -> Gate
 }
 
 // The table's rows, by what is spent.
-#[derive(Drop)]
+#[derive(Clone, Copy)]
 enum TableRow {
     Free,
     Bid,

@@ -22,7 +22,7 @@ use sheets::{ReadPlace, VERSION, gap_of, input_at, place_at};
 use words::load::load_u64;
 
 // An input's partner, and where the next output stands.
-#[derive(Drop)]
+#[derive(Clone, Copy)]
 struct Beside {
     partner: Partner,
     next: usize,

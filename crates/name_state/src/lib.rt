@@ -1,4 +1,6 @@
 // A name state, by value: it carries its name and resource bytes inside itself (document 01, module 6).
+#![tactic(auto)]
+
 ghost use Rattle.std.specs.Prelude.{◌≡◌, [], ◌≤◌};
 ghost use Rattle.words.specs.Buffers.{pick};
 ghost use Rattle.words.specs.Sameness.{same};
@@ -19,7 +21,7 @@ pub mod comparison;
 // The Rust's `NameState`; of each array only the first `name_length`, `resource_length` bytes are the name and the
 // resource.
 #[repr(C)]
-#[derive(Drop)]
+#[derive(Clone, Copy)]
 pub struct NameState {
     pub name_hash: NameHash,
     pub name: [u8; 63],
@@ -41,14 +43,14 @@ pub struct NameState {
 }
 
 // The Rust's `Option<Outpoint>`: zeros where there is no owner.
-#[derive(Drop)]
+#[derive(Clone, Copy)]
 pub struct Owner {
     pub held: bool,
     pub outpoint: Outpoint,
 }
 
 // What the name report prints of a state.
-#[derive(Drop)]
+#[derive(Clone, Copy)]
 pub enum Class {
     Null,
     Held,
@@ -56,21 +58,21 @@ pub enum Class {
 }
 
 // A state's height and renewal.
-#[derive(Drop)]
+#[derive(Clone, Copy)]
 pub struct Heights {
     pub height: Height,
     pub renewal: Height,
 }
 
 // A state's value and highest.
-#[derive(Drop)]
+#[derive(Clone, Copy)]
 pub struct Amounts {
     pub value: Dollarydoos,
     pub highest: Dollarydoos,
 }
 
 // A state's transfer, revoked, claimed and renewals.
-#[derive(Drop)]
+#[derive(Clone, Copy)]
 pub struct Times {
     pub transfer: Height,
     pub revoked: Height,

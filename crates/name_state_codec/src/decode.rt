@@ -21,7 +21,7 @@ use refusal::{Judgement, Refusal, Stop};
 use words::store::put_bytes;
 
 // Whether the bytes are a state's record, and the state; zeros where refused.
-#[derive(Drop)]
+#[derive(Clone, Copy)]
 pub struct Decoded {
     pub read: Moved,
     pub state: NameState,

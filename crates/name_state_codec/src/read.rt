@@ -19,7 +19,7 @@ use primitives::{Dollarydoos, Height, Outpoint, ReadOutpoint, TransactionHash};
 use refusal::{Refusal, Stop};
 
 // Height, renewal and the bitmap.
-#[derive(Drop)]
+#[derive(Clone, Copy)]
 pub struct Numbers {
     pub height: Height,
     pub renewal: Height,
@@ -27,7 +27,7 @@ pub struct Numbers {
 }
 
 // The fields of a record; of the name and the resource, where they stand.
-#[derive(Drop)]
+#[derive(Clone, Copy)]
 pub struct Fields {
     pub name_at: usize,
     pub name_length: usize,
@@ -47,7 +47,7 @@ pub struct Fields {
 
 // The fields read so far, and where the reader stands, or why it stopped; what a refused reading holds is not looked
 // at.
-#[derive(Drop)]
+#[derive(Clone, Copy)]
 pub struct Reading {
     pub fields: Fields,
     pub moved: Moved,

@@ -1,4 +1,6 @@
 // The name rule, the name hash and the blind commitment (document 01, module 5).
+#![tactic(auto)]
+
 ghost use Rattle.std.specs.Prelude.{◌≡◌, true, false, ◌&&◌, ◌||◌};
 ghost use Rattle.names.specs.Blind.{blind_of};
 ghost use Rattle.names.specs.Name.{plain, mark, letters, reserved, valid_name, name_hash};
@@ -101,7 +103,7 @@ pub fn validate_name(name: &[u8]) -> bool
 }
 
 // Whether the bytes are a name, and its hash; zeros where they are none.
-#[derive(Drop)]
+#[derive(Clone, Copy)]
 pub struct Hashed {
     pub judgement: Judgement,
     pub hash: NameHash,

@@ -1,5 +1,7 @@
 // The kinds of amounts, heights and keys, each its own, and outpoints: the part of hns-primitives that names and links
 // stand on.
+#![tactic(auto)]
+
 ghost use Rattle.std.specs.Prelude.{◌≡◌};
 ghost use Rattle.primitives.specs.Units.{sum_of, difference_of};
 ghost use Rattle.primitives.specs.Outpoints.{same_outpoint, is_null, outpoint_bytes, outpoint_at, outpoint_paper, shown_outpoint, refused_outpoint};
@@ -11,25 +13,25 @@ use words::store::{put_bytes, put_le};
 
 // An amount, in millionths of a coin.
 #[repr(C)]
-#[derive(Drop)]
+#[derive(Clone, Copy)]
 pub struct Dollarydoos(pub u64);
 
 // A block's height.
 #[repr(C)]
-#[derive(Drop)]
+#[derive(Clone, Copy)]
 pub struct Height(pub u32);
 
 // The key of a name: the hash of its bytes.
 #[repr(C)]
-#[derive(Drop)]
+#[derive(Clone, Copy)]
 pub struct NameHash(pub [u8; 32]);
 
 #[repr(C)]
-#[derive(Drop)]
+#[derive(Clone, Copy)]
 pub struct TransactionHash(pub [u8; 32]);
 
 // A sum or a difference of amounts, or why there is none: the Rust's `Result<Dollarydoos, ArithmeticError>`.
-#[derive(Drop)]
+#[derive(Clone, Copy)]
 pub enum Checked {
     Value(Dollarydoos),
     Overflow,
@@ -62,14 +64,14 @@ impl Dollarydoos {
 
 // A transaction's output, by the transaction's hash and the output's number.
 #[repr(C)]
-#[derive(Drop)]
+#[derive(Clone, Copy)]
 pub struct Outpoint {
     pub transaction_hash: TransactionHash,
     pub index: u32,
 }
 
 // An outpoint, all zeros where it was refused.
-#[derive(Drop)]
+#[derive(Clone, Copy)]
 pub struct ReadOutpoint {
     pub moved: Moved,
     pub outpoint: Outpoint,

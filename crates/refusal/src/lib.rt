@@ -1,11 +1,13 @@
 // Why something was refused: document 01's table, one variant for each number, in its order.
+#![tactic(auto)]
+
 ghost use Rattle.std.specs.Prelude.{◌≡◌, [], ◌∷◌};
 ghost use Rattle.refusal.specs.Outcome.{refused_by};
 ghost use Rattle.refusal.specs.Paper.{number_of, carried, shown_carried, judgement_paper};
 
 // The names and the carried numbers are the table's. The outpoints of 12 stand beside the refusal in the verifier's
 // answer, since an enum here holds no arrays.
-#[derive(Drop)]
+#[derive(Clone, Copy)]
 pub enum Refusal {
     UnexpectedEnd { offset: usize, needed: usize },
     LengthExceedsBound { actual: usize, maximum: usize },
@@ -40,14 +42,14 @@ pub enum Refusal {
 }
 
 // What a refused read hands back: the refusal, and the position where the reader then stands.
-#[derive(Drop)]
+#[derive(Clone, Copy)]
 pub struct Stop {
     pub refusal: Refusal,
     pub position: usize,
 }
 
 // Whether a thing that is not read passes, or why not.
-#[derive(Drop)]
+#[derive(Clone, Copy)]
 pub enum Judgement {
     Passes,
     Refused(Refusal),
@@ -118,7 +120,7 @@ pub fn judgement_number(j: Judgement) -> u8
 }
 
 // What a refusal carries, in the table's order; zeros where it carries less.
-#[derive(Drop)]
+#[derive(Clone, Copy)]
 pub struct Carried {
     pub first: usize,
     pub second: usize,

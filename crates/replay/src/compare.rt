@@ -8,7 +8,7 @@ use crate::answers::is_ours;
 use crate::records::{Record, find};
 
 // `whole`: the record is of the form; `differs`: 1 where its answer is not ours, else 0; `next`: the place after it.
-#[derive(Drop)]
+#[derive(Clone, Copy)]
 pub struct Judged {
     pub whole: bool,
     pub differs: u64,

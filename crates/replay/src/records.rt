@@ -6,7 +6,7 @@ ghost use Rattle.replay.specs.Answers.{takes, answered_at, record_at, Inside};
 use words::load::load_u64;
 
 // The argument stands from `start` up to `end`, the answer from `end + 4` up to `next`, the place after the record.
-#[derive(Drop)]
+#[derive(Clone, Copy)]
 pub enum Record {
     Found {
         entry: u8,

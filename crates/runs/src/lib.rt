@@ -1,4 +1,6 @@
 // Covenants back to back: the run reader.
+#![tactic(auto)]
+
 pub mod archive;
 
 ghost use Rattle.std.specs.Prelude.{◌≡◌};
@@ -11,13 +13,13 @@ use encoding::read::Cursor;
 use refusal::Stop;
 
 // A place in a run, and how many covenants came before it.
-#[derive(Drop)]
+#[derive(Clone, Copy)]
 pub struct Run {
     pub cursor: Cursor,
     pub count: usize,
 }
 
-#[derive(Drop)]
+#[derive(Clone, Copy)]
 pub enum Step {
     Covenant {
         kind: u8,
@@ -33,7 +35,7 @@ pub enum Step {
 }
 
 // How a run ended, with the number of its covenants.
-#[derive(Drop)]
+#[derive(Clone, Copy)]
 pub enum RunEnd {
     Ended(usize),
     Refused { stop: Stop, count: usize },

@@ -11,7 +11,7 @@ use words::same::same_bytes;
 use words::store::put_bytes;
 
 // `whole`: the vector is of the form; `differs`: 1 where its digest is not ours, else 0; `next`: the place after it.
-#[derive(Drop)]
+#[derive(Clone, Copy)]
 pub struct Judged {
     pub whole: bool,
     pub differs: u64,

@@ -5,7 +5,7 @@ ghost use Rattle.samples.specs.Vectors.{head_of, takes, made, message_at, vector
 
 use words::load::load_u64;
 
-#[derive(Drop)]
+#[derive(Clone, Copy)]
 pub enum Function {
     Sha3,
     Blake2b,
@@ -13,7 +13,7 @@ pub enum Function {
 }
 
 // The message is given in the file, or is to be made; `next` is the place after the digest.
-#[derive(Drop)]
+#[derive(Clone, Copy)]
 pub enum Vector {
     Given {
         start: usize,

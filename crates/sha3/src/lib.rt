@@ -1,4 +1,6 @@
 // SHA3-256 (FIPS 202) of a message of any length.
+#![tactic(auto)]
+
 mod keccak;
 
 ghost use Rattle.std.specs.Prelude.{◌≡◌, ◌+◌, ◌*◌, ◌%◌, ◌≤◌, ◌<◌, length, take, drop};

@@ -41,7 +41,7 @@ module _ (tx coins : Bor (List ℕ)) (side index item : ℕ) where
   abbrev Says : Bor (List ℕ) → Type 0
   Says r =
       (r.now ≡ view_bytes tx.now coins.now (view_of tx.now coins.now side index item))
-      × (r.ptr ≡ view_place tx.ref_ptr coins.ref_ptr (view_of tx.now coins.now side index item))
+      × (r.ref_ptr ≡ view_place tx.ref_ptr coins.ref_ptr (view_of tx.now coins.now side index item))
 
   pub item-one : (r r' : Bor (List ℕ)) → Says r → Says r' → (r.now ≡ r'.now) × (r.ref_ptr ≡ r'.ref_ptr)
   item-one r r' = one_each

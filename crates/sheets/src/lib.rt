@@ -1,4 +1,6 @@
 // Sheets: a head, then inputs and outputs, or coins, read over lent bytes with a cursor.
+#![tactic(auto)]
+
 pub mod viewer;
 
 ghost use Rattle.std.specs.Prelude.{◌≡◌, true, ◌+◌, ◌≤◌, ◌<◌, ◌^◌, length, eqb};
@@ -29,7 +31,7 @@ const LONGEST: usize = 16_777_216;
 pub const VERSION: u8 = 1;
 
 // An address: its version, and where its hash stands and how long it is.
-#[derive(Drop)]
+#[derive(Clone, Copy)]
 pub struct Address {
     pub version: u8,
     pub start: usize,
@@ -37,7 +39,7 @@ pub struct Address {
 }
 
 // An output: its value, its address, and where its covenant stands and of what kind it is.
-#[derive(Drop)]
+#[derive(Clone, Copy)]
 pub struct Place {
     pub value: Dollarydoos,
     pub address: Address,
@@ -45,14 +47,14 @@ pub struct Place {
     pub kind: u8,
 }
 
-#[derive(Drop)]
+#[derive(Clone, Copy)]
 pub enum ReadPlace {
     Output(Place, Cursor),
     Refused(Stop),
 }
 
 // How many inputs (or coins) and outputs a sheet has; or why it is refused, and which sheet that is.
-#[derive(Drop)]
+#[derive(Clone, Copy)]
 pub enum SheetRead {
     Counts(usize, usize),
     Refused { refusal: Refusal, side: u8 },
@@ -60,7 +62,7 @@ pub enum SheetRead {
 
 // How many inputs and outputs a transaction sheet has, and how many coins the coin sheet; or why one is refused, and
 // which of them.
-#[derive(Drop)]
+#[derive(Clone, Copy)]
 pub enum PairRead {
     Counts {
         inputs: usize,
@@ -74,7 +76,7 @@ pub enum PairRead {
 }
 
 // A head: the sheet's version, and how many inputs (or coins) and outputs it has.
-#[derive(Drop)]
+#[derive(Clone, Copy)]
 enum ReadHead {
     Counts {
         version: u8,

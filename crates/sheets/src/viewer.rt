@@ -15,7 +15,7 @@ use covenants::items::{Spot, find};
 use encoding::read::{Cursor, Moved};
 
 // In which sheet an item stands, from where on, and how long it is.
-#[derive(Drop)]
+#[derive(Clone, Copy)]
 pub enum View {
     Transaction { start: usize, len: usize },
     Coins { start: usize, len: usize },

@@ -1,5 +1,7 @@
 // Texts and numbers into lent memory, one after the other. Each is put whole, or not at all where it does not fit. The
 // answer is where it ends, or one past the memory where it did not fit, so that nothing that is put from there on fits.
+#![tactic(auto)]
+
 ghost use Rattle.std.specs.Prelude.{◌≡◌, ◌++◌, ℕ, ◌≤◌, length, drop};
 ghost use Rattle.words.specs.Buffers.{laid};
 ghost use Rattle.texts.specs.Text.{decimal, refused_line, end_of};
@@ -7,7 +9,7 @@ ghost use Rattle.texts.specs.Text.{decimal, refused_line, end_of};
 use words::store::{has_room, put_bytes};
 
 // The digits of a number, which end at the array's end.
-#[derive(Drop)]
+#[derive(Clone, Copy)]
 struct Digits {
     bytes: [u8; 20],
     first: usize,

@@ -1,0 +1,13 @@
+use native.Mathlib.Omega.{arith}
+use Rattle.covenants.proofs.Checks.{item-long}
+use Rattle.covenants.proofs.Laying.{item-laid}
+use Rattle.covenants.proofs.write.put_item.Goals as goal
+
+pub overflow_add-result : goal.overflow_add-result
+overflow_add-result c = omega (arith, c.requires.0, c.requires.1, c.compact_size_len.ensures, item-long c.args.source.now c.args.from c.args.n c.requires.0)
+
+pub overflow_add-result-2 : goal.overflow_add-result-2
+overflow_add-result-2 c = omega (arith, c.requires.0, c.requires.1, c.compact_size_len.ensures, item-long c.args.source.now c.args.from c.args.n c.requires.0)
+
+pub returns : goal.returns
+returns c = (omega (arith, c.compact_size_len.ensures, item-long c.args.source.now c.args.from c.args.n c.requires.0), item-laid c.args.source.now c.args.from c.args.n c.args.at c.args.dest.now c.requires.1 c.put_varbytes.ensures.1)

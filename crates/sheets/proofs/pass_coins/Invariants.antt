@@ -1,0 +1,10 @@
+use Prim.Native.Nat.{◌-◌}
+use Rattle.refusal.proofs.Many.{Passing}
+use Rattle.sheets.specs.Sheet.{coin_at}
+use Rattle.sheets.proofs.pass_coins.Given as goal
+
+abbrev pub invariant-loop-i : goal.invariant-loop-i
+invariant-loop-i l = Passing (coin_at l.version l.s) l.n l.initial.c.position l.c.position l.i
+
+abbrev pub decreases-loop-i : goal.decreases-loop-i
+decreases-loop-i l = l.n - l.i
