@@ -1,5 +1,7 @@
 // The C boundary: each entry of the libraries under a C name, with its whole contract. bindings/c/turgamysk.h declares
 // them.
+#![tactic(auto)]
+
 pub mod amounts;
 pub mod items;
 pub mod lines;
