@@ -1,16 +1,16 @@
 -- What two sheets that were judged hold, by their counts.
-use mathlib.Core.Path.{◌≡◌, refl, ap, sym, subst, ◌∙◌}
-use Prim.Native.Nat.{ℕ, zero, suc, ◌+◌, ◌-◌, ◌*◌, ◌^◌, ◌≤◌, ◌<◌}
+use mathlib.Core.Path.{◌≡◌, ap, sym, subst, ◌∙◌}
+use Prim.Native.Nat.{ℕ, ◌+◌, ◌-◌, ◌*◌}
 use native.Mathlib.Omega.{arith}
-use mathlib.Core.List.{List, [], ◌∷◌, map}
+use mathlib.Core.List.{List, [], ◌∷◌}
 use mathlib.Core.Bool.{true, false}
 use lib.ListN.{length, length-map}
 use borrow.Author.Tests.{eq-eqb, ne_eqb}
-use Rattle.refusal.specs.Outcome.{Outcome, ok, err, many_at, list_of}
+use Rattle.refusal.specs.Outcome.{Outcome, ok, many_at, list_of}
 use Rattle.refusal.proofs.Many.{many-next, many-none, many-long}
 use Rattle.primitives.specs.declared.Outpoint.{Outpoint}
 use Rattle.primitives.specs.Outpoints.{shown_outpoint, is_null}
-use Rattle.sheets.specs.Sheet.{Output, Coin, output_of, coin_of, input_at, place_at, coin_at, ledger_at, transaction_at, coins_at, whole, refused, judged, transaction_of, coins_of, transaction_counts, coin_counts, pair_of, pair_counts}
+use Rattle.sheets.specs.Sheet.{Output, Coin, coin_of, input_at, coin_at, whole, refused, transaction_counts, coin_counts, pair_of, pair_counts}
 use Rattle.sheets.specs.declared.Place.{Place}
 use Rattle.sheets.proofs.Whole.{transaction-is, coins-are, pair-whole, pair-refused}
 use Rattle.sheets.proofs.Counts.{transaction-small, coins-small, inputs_end, outputs-end, outputs-at, transaction-not, coins-not, transaction-holds, coins-hold}

@@ -13,7 +13,7 @@ use Rattle.primitives.specs.Outpoints.{same_outpoint, shown_outpoint}
 use Rattle.covenants.specs.Kind.{is_name}
 use Rattle.sheets.specs.Sheet.{Output, output_of, coin_of, input_at, place_at, gap, coin_at}
 use Rattle.sheets.specs.declared.Place.{Place}
-use Rattle.sheets.proofs.Reading.{CoinRead, coin-read, input-moves, place_read}
+use Rattle.sheets.proofs.Reading.{CoinRead, coin-read, input-moves}
 use Rattle.links.specs.Rules.{rule, one, partner_in, others, Verdict, linked, broken, differs, unpaired, links_from}
 use Rattle.checks.specs.Checks.{Step, passes, breaks}
 use Rattle.checks.specs.Paper.{partner_of}

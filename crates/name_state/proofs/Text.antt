@@ -1,6 +1,6 @@
 -- The bytes that an array holds, up to a length.
 use mathlib.Core.Path.{◌≡◌, ap, ap₂, sym, ◌∙◌}
-use Prim.Native.Nat.{ℕ, ◌+◌, ◌-◌, ◌≤◌, min}
+use Prim.Native.Nat.{ℕ, ◌-◌, ◌≤◌, min}
 use native.Mathlib.Omega.{arith}
 use mathlib.Core.Bool.{false}
 use mathlib.Core.List.{List, ◌++◌, append-nil}

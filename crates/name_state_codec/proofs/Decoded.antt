@@ -1,10 +1,10 @@
 -- The reader's answer, as what was read.
-use mathlib.Core.Path.{◌≡◌, refl, ap, sym, ◌∙◌}
+use mathlib.Core.Path.{◌≡◌, refl, ap, ◌∙◌}
 use Prim.Native.Nat.{ℕ}
 use mathlib.Core.List.{List}
 use Rattle.refusal.specs.Outcome.{Outcome, ok, err, then}
 use Rattle.name_state.specs.State.{State}
-use Rattle.name_state.specs.Paper.{state_of, stored}
+use Rattle.name_state.specs.Paper.{state_of}
 use Rattle.name_state.specs.declared.NameState.{NameState}
 use Rattle.name_state.proofs.Theorems.{stored-holds}
 use Rattle.name_state_codec.specs.Read.{read_state}

@@ -8,7 +8,6 @@ use lib.ListN.{length}
 use lib.Dec.{ltb}
 use borrow.Author.Tests.{le-ltb, eq-eqb, ltb-false}
 use Rattle.words.specs.Words.{Bytes}
-use Rattle.words.specs.Buffers.{pick}
 use Rattle.words.specs.Sameness.{same}
 use Rattle.words.proofs.Le.{part-long}
 use Rattle.words.proofs.Sameness.{same_refl, same_true}
@@ -20,14 +19,14 @@ use Rattle.primitives.specs.Outpoints.{null_outpoint}
 use Rattle.primitives.specs.Theorems as outpoints
 use Rattle.primitives.specs.declared.Outpoint.{Outpoint}
 use Rattle.names.specs.Name.{max_name_size, name_hash}
-use Rattle.name_state.specs.State.{State, max_resource_size, max_size, max_safe_integer, null, bitmap, binding}
+use Rattle.name_state.specs.State.{State, max_resource_size, max_size, max_safe_integer, bitmap, binding}
 use Rattle.name_state.proofs.Bound.{Keyed, bound-keyed, keyed-bound}
 use Rattle.name_state_codec.specs.Written.{has, safe_integer, texts_bytes, numbers_bytes, held_bytes, times_bytes, record_with, state_bytes, checked_size}
 use Rattle.name_state_codec.specs.Read.{unknown_bits, owner_index, renewal_count, known_bits, max_u32, up_to, texts_at, numbers_at, present, owner_at, amount_at, amounts_at, held_at, times_at, gathered, optional_at, fields_at, standing_at, judged_state, read_state}
 use Rattle.name_state_codec.specs.Theorems.{Sized, Writable, AcceptedIsWritable, WritableIsAccepted, EncodeWrites, StateReadsBack, AcceptedIsWritten, WrittenAgain, StateHasOneReading, SameBytesSameKey}
 use Rattle.name_state_codec.proofs.Inside.{up-to, texts-inside}
 use Rattle.name_state_codec.proofs.Canonical.{finish-end}
-use Rattle.name_state_codec.proofs.Checks.{Passed, passes, passing, encode-done, encode-wrote}
+use Rattle.name_state_codec.proofs.Checks.{passes, passing, encode-done, encode-wrote}
 use Rattle.name_state_codec.proofs.Back.{Fits, fields_back}
 use Rattle.name_state_codec.proofs.Short.{at-most-668}
 

@@ -2,13 +2,10 @@
 use mathlib.Core.Path.{◌≡◌, refl}
 use Prim.Native.Nat.{ℕ}
 use mathlib.Core.List.{List}
-use lib.ListN.{length}
 use Rattle.refusal.specs.Outcome.{Outcome, ok, err}
-use Rattle.primitives.specs.declared.Outpoint.{Outpoint}
-use Rattle.sheets.specs.declared.Place.{Place}
 use Rattle.sheets.specs.Sheet.{Judged, whole, refused, Transaction, Coin, judged, transaction_at, transaction_of, transaction_counts, coins_of, both, pair_of}
 use Rattle.links.specs.Verify.{Answer, judged_then, verify_of}
-use Rattle.reports.specs.Link.{answer_line, judged_line, link_line}
+use Rattle.reports.specs.Link.{answer_line, judged_line}
 
 -- whatever is told of a sheet that is not refused
 judged-line : {A B C : Type 0} (side : ℕ) (f : A → B) (g : A → C) (o : Outcome A) (next : List ℕ) → judged_line (judged side f o) next ≡ judged_line (judged side g o) next

@@ -6,7 +6,7 @@ use mathlib.Core.List.{List, [], ◌∷◌, ◌++◌, append_assoc}
 use mathlib.Core.Bool.{Bool, true, false, ◌&&◌}
 use lib.ListN.{length, get_or, length-append}
 use lib.Dec.{leb}
-use Rattle.words.specs.Buffers.{pick, laid}
+use Rattle.words.specs.Buffers.{pick}
 use Rattle.words.proofs.Over.{laid-over}
 use Rattle.words.proofs.Laid.{over_nothing}
 use Rattle.name_state.specs.declared.Class.{Class}

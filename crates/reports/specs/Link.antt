@@ -1,5 +1,5 @@
 -- The link report (document 01, "Sheets and reports"), as the bytes of its line, the newline among them.
-use Rattle.std.specs.Prelude.{ℕ, Bool, ◌&&◌, List, [], ◌∷◌, ◌++◌, length, get_or, ltb, leb}
+use Rattle.std.specs.Prelude.{ℕ, ◌&&◌, List, [], ◌∷◌, ◌++◌, length, get_or, ltb, leb}
 use Rattle.words.specs.Buffers.{pick}
 use Rattle.sheets.specs.Sheet.{Judged, whole, refused, transaction_of}
 use Rattle.links.specs.Verify.{Said, summary, stopped, Answer, verify_of}

@@ -1,7 +1,7 @@
 -- The name report (document 01, "Sheets and reports"), as the bytes of its line, the newline among them.
 use Rattle.std.specs.Prelude.{ℕ, ◌-◌, List, [], ◌∷◌, ◌++◌, length, take, drop, ltb}
 use Rattle.words.specs.Buffers.{pick}
-use Rattle.refusal.specs.Outcome.{Outcome, ok, err, then}
+use Rattle.refusal.specs.Outcome.{Outcome, ok, err}
 use Rattle.name_state.specs.State.{State}
 use Rattle.name_state.specs.Paper.{class_of}
 use Rattle.name_state.specs.declared.Class.{Class}

@@ -1,6 +1,5 @@
 use native.Mathlib.Omega.{arith}
 use mathlib.Core.Path.{refl, sym, ◌∙◌}
-use Prim.Native.Nat.{◌-◌}
 use Rattle.checks.proofs.Comparing.{left_end, item-malformed, items-fit, items-unequal, items-equal, none-compared, byte-same, byte-differs, bytes_same}
 use Rattle.checks.proofs.name_and_start.Goals as goal
 

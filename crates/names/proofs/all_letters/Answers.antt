@@ -1,6 +1,5 @@
 use native.Mathlib.Omega.{arith}
 use mathlib.Core.Path.{refl, sym, ◌∙◌}
-use Prim.Native.Nat.{◌-◌}
 use Rattle.names.proofs.Letters.{letters-next, letters-stop, letters-end}
 use Rattle.names.proofs.all_letters.Goals as goal
 

@@ -1,4 +1,4 @@
-use Rattle.std.proofs.Common.{◌-◌, ◌∙◌, arith}
+use Rattle.std.proofs.Common.{◌∙◌, arith}
 use Rattle.refusal.proofs.Outcomes.{told}
 use Rattle.runs.specs.Paper.{run_step_paper}
 use Rattle.runs.proofs.Running.{begin, finish, moves, more}

@@ -1,5 +1,4 @@
 use mathlib.Core.Path.{sym}
-use Prim.Native.Nat.{◌-◌}
 use Rattle.refusal.proofs.Outcomes.{told, past-ok, past-err}
 use Rattle.refusal.proofs.Many.{begin, more, stopped, ended}
 use Rattle.encoding.specs.Paper.{moved_paper}

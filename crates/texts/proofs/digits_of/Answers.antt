@@ -1,6 +1,5 @@
 use native.Mathlib.Omega.{arith}
 use mathlib.Core.Path.{refl, ◌∙◌}
-use Prim.Native.Nat.{◌-◌}
 use mathlib.Core.List.{append-nil}
 use lib.ListN.{length-set}
 use Rattle.texts.specs.Text.{digits, decimal}

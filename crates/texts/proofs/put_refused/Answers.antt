@@ -1,5 +1,5 @@
 use native.Mathlib.Omega.{arith}
-use mathlib.Core.Path.{refl, sym}
+use mathlib.Core.Path.{refl}
 use lib.ListN.{replicate}
 use lib.Seq.{length-take-le}
 use Rattle.texts.proofs.Puts.{refused-stands}

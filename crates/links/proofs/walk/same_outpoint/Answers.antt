@@ -1,6 +1,5 @@
 use native.Mathlib.Omega.{arith}
 use mathlib.Core.Path.{sym, ◌∙◌}
-use Prim.Native.Nat.{◌-◌}
 use Rattle.links.proofs.Alike as alike
 use Rattle.links.proofs.walk.same_outpoint.Goals as goal
 

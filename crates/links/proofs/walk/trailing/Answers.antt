@@ -1,5 +1,4 @@
 use mathlib.Core.Path.{ap, sym, ◌∙◌}
-use Prim.Native.Nat.{◌-◌}
 use Rattle.refusal.proofs.Outcomes.{told}
 use Rattle.sheets.specs.Paper.{place_paper}
 use Rattle.links.specs.Verify as verify

@@ -1,6 +1,5 @@
 use Prim.Native.Nat.{◌-◌}
 use Rattle.links.specs.Rules.{linked, unpaired}
-use Rattle.links.specs.Verify as verify
 use Rattle.links.specs.Workers.{outputs_in}
 use Rattle.links.proofs.Unpaired.{Trailing}
 use Rattle.links.proofs.walk.trailing.Given as goal

@@ -1,6 +1,6 @@
 use native.Mathlib.Omega.{arith}
 use mathlib.Core.Path.{refl, ap, sym, ◌∙◌, subst}
-use Prim.Native.Nat.{ℕ, ◌+◌, ◌-◌}
+use Prim.Native.Nat.{ℕ, ◌+◌}
 use Rattle.refusal.proofs.Outcomes.{told}
 use Rattle.links.specs.Rules.{one}
 use Rattle.links.specs.Verify as verify

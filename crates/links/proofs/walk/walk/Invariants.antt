@@ -1,9 +1,7 @@
 use Prim.Native.Nat.{◌+◌, ◌-◌, ◌*◌}
 use Rattle.links.specs.Rules.{rule, links_from}
-use Rattle.links.specs.Verify as verify
 use Rattle.links.specs.Workers.{inputs_in, outputs_in, coins_in, turn_at, Turning}
 use Rattle.checks.proofs.Comparing as comparing
-use Rattle.links.proofs.Turning as turning
 use Rattle.links.proofs.Walking as walking
 use Rattle.links.proofs.walk.walk.Given as goal
 
