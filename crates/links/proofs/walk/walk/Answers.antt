@@ -30,7 +30,7 @@ pub start_row-requires : goal.start_row-requires
 start_row-requires c = (walking.bounds _ _ _ _ c.inputs.invariant c.if-n-i.false).1
 
 pub loop-k-init : goal.loop-k-init
-loop-k-init c = let k = c.inputs in subst (Ahead c.args.tx.now c.args.coins.now k.i (turn_at c.args.tx.now c.args.coins.now k.i k.coin-position k.output-position c.remaining-left-in-inputs.result)) c.in-Goes.is c.start_row.ensures
+loop-k-init c = let k = c.inputs in subst (Ahead c.args.tx.now c.args.coins.now k.i (turn_at c.args.tx.now c.args.coins.now k.i k.coin_position k.output_position c.remaining-left-in-inputs.result)) c.in-Goes.is c.start_row.ensures
 
 pub loop-j-init : goal.loop-j-init
 loop-j-init c = comparing.none-compared _ _ (turning.fitting _ _ _ _ _ c.loop-k.invariant (c.inputs.invariant.long.1, c.inputs.invariant.long.0) (omega (arith, c.loop-k-test.true)) c.pair_of.ensures c.in-At.is)
@@ -84,7 +84,7 @@ pub inputs-preserved : goal.inputs-preserved
 inputs-preserved c = let k = c.inputs in
     let same = sym c.same_outpoint.ensures ∙ c.if-not-same_outpoint.false in
     let done = turning.finished _ _ _ _ _ c.loop-k.invariant (omega (arith, c.loop-k-test.false)) (sym (told step_paper c.finish_row.ensures c.in-Passes.is)) in
-    walking.more _ _ _ _ k.invariant c.if-n-i.false refl refl same ((rw c.remaining-left-in-inputs.ensures at (sym done))) (ap (λ (x : ℕ). k.linked-outputs + x) c.count-linked_outputs.ensures.0) (ap (λ (x : ℕ). k.name-inputs + x) (c.count-name_inputs.ensures.0 ∙ ap one c.is_name.ensures))
+    walking.more _ _ _ _ k.invariant c.if-n-i.false refl refl same ((rw c.remaining-left-in-inputs.ensures at (sym done))) (ap (λ (x : ℕ). k.linked_outputs + x) c.count-linked_outputs.ensures.0) (ap (λ (x : ℕ). k.name_inputs + x) (c.count-name_inputs.ensures.0 ∙ ap one c.is_name.ensures))
 
 pub returns-then-n-i : goal.returns-then-n-i
 returns-then-n-i c = (rw c.remaining-left.ensures at c.trailing.ensures) ∙ ap verify.answer_of (walking.ended _ _ _ _ c.inputs.invariant c.if-n-i.true)
@@ -111,5 +111,5 @@ returns-in-Breaks c = let same = sym c.same_outpoint.ensures ∙ c.if-not-same_o
 pub returns-in-Stop : goal.returns-in-Stop
 returns-in-Stop c = let k = c.inputs in
     let same = sym c.same_outpoint.ensures ∙ c.if-not-same_outpoint.false in
-    let stop = subst (Ahead c.args.tx.now c.args.coins.now k.i (turn_at c.args.tx.now c.args.coins.now k.i k.coin-position k.output-position c.remaining-left-in-inputs.result)) c.in-Stop.is c.start_row.ensures in
+    let stop = subst (Ahead c.args.tx.now c.args.coins.now k.i (turn_at c.args.tx.now c.args.coins.now k.i k.coin_position k.output_position c.remaining-left-in-inputs.result)) c.in-Stop.is c.start_row.ensures in
     c.refused-in-Stop.ensures ∙ ap verify.answer_of (walking.stopped _ _ _ _ k.invariant c.if-n-i.false refl refl same (rw c.remaining-left-in-inputs.ensures at (sym stop)))
