@@ -1,7 +1,7 @@
 -- BLAKE2b (RFC 7693), with no key and a result of 32 bytes, in the order of the RFC's sections.
 -- 2.1: words of 64 bits, 12 rounds, blocks of 128 bytes, rotations by 32, 24, 16 and 63; kk = 0, nn = 32. A word is a
 -- number below 2 ^ 64.
-use Rattle.std.specs.Prelude.{ℕ, zero, suc, ◌+◌, ◌-◌, ◌*◌, ◌/◌, ◌%◌, ◌^◌, Bool, true, false, List, [], ◌∷◌, ◌++◌, length, drop, set, replicate, bit_or, bit_xor, slice_index, slice_index_or, slice_set}
+use Rattle.std.specs.Prelude.{ℕ, zero, suc, ◌+◌, ◌-◌, ◌*◌, ◌/◌, ◌%◌, ◌^◌, Bool, true, false, List, [], ◌∷◌, ◌++◌, length, drop, replicate, bit_or, bit_xor, slice_index, slice_index_or, slice_set}
 use Rattle.words.specs.Words.{bytes, lanes}
 
 -- 2.3: x >>> n

@@ -32,16 +32,14 @@ fn amount_answer(checked: Checked) -> AmountAnswer
     }
 }
 
-#[unsafe(no_mangle)]
-pub extern "C" fn turgamysk_checked_add(amount: u64, other: u64) -> AmountAnswer
+pub fn turgamysk_checked_add(amount: u64, other: u64) -> AmountAnswer
     ensures { result ≡ amount_flat (sum_of (record { 0 = amount }) (record { 0 = other })) }
 {
     let a = Dollarydoos(amount);
     amount_answer(a.checked_add(Dollarydoos(other)))
 }
 
-#[unsafe(no_mangle)]
-pub extern "C" fn turgamysk_checked_sub(amount: u64, other: u64) -> AmountAnswer
+pub fn turgamysk_checked_sub(amount: u64, other: u64) -> AmountAnswer
     ensures { result ≡ amount_flat (difference_of (record { 0 = amount }) (record { 0 = other })) }
 {
     let a = Dollarydoos(amount);

@@ -141,12 +141,7 @@ fn no_item() -> ItemAnswer
 
 // ---- runs
 
-#[unsafe(no_mangle)]
-pub extern "C" fn turgamysk_covenant_run_next(
-    source: &[u8],
-    position: usize,
-    count: usize,
-) -> StepAnswer
+pub fn turgamysk_covenant_run_next(source: &[u8], position: usize, count: usize) -> StepAnswer
     ensures { result ≡ step_flat (covenant_step default_allowance source.now position count) }
 {
     let run = Run {
@@ -156,8 +151,7 @@ pub extern "C" fn turgamysk_covenant_run_next(
     step_answer(run.next(source))
 }
 
-#[unsafe(no_mangle)]
-pub extern "C" fn turgamysk_covenant_run_next_with_limit(
+pub fn turgamysk_covenant_run_next_with_limit(
     source: &[u8],
     limit: usize,
     position: usize,
@@ -172,22 +166,19 @@ pub extern "C" fn turgamysk_covenant_run_next_with_limit(
     step_answer(run.next_with_limit(source, limit))
 }
 
-#[unsafe(no_mangle)]
-pub extern "C" fn turgamysk_covenant_read_run(source: &[u8]) -> RunAnswer
+pub fn turgamysk_covenant_read_run(source: &[u8]) -> RunAnswer
     ensures { result ≡ run_flat (run_said (covenant_run default_allowance source.now)) }
 {
     run_answer(read_run(source))
 }
 
-#[unsafe(no_mangle)]
-pub extern "C" fn turgamysk_covenant_read_run_with_limit(source: &[u8], limit: usize) -> RunAnswer
+pub fn turgamysk_covenant_read_run_with_limit(source: &[u8], limit: usize) -> RunAnswer
     ensures { result ≡ run_flat (run_said (covenant_run limit source.now)) }
 {
     run_answer(read_run_with_limit(source, limit))
 }
 
-#[unsafe(no_mangle)]
-pub extern "C" fn turgamysk_covenant_import_archive(source: &[u8]) -> RunAnswer
+pub fn turgamysk_covenant_import_archive(source: &[u8]) -> RunAnswer
     ensures { result ≡ run_flat (run_said (covenant_run default_allowance source.now)) }
 {
     run_answer(import_archive(source))
@@ -195,19 +186,13 @@ pub extern "C" fn turgamysk_covenant_import_archive(source: &[u8]) -> RunAnswer
 
 // ---- items
 
-#[unsafe(no_mangle)]
-pub extern "C" fn turgamysk_covenant_find(
-    source: &[u8],
-    position: usize,
-    index: usize,
-) -> ViewAnswer
+pub fn turgamysk_covenant_find(source: &[u8], position: usize, index: usize) -> ViewAnswer
     ensures { result ≡ place_flat (seek_at source.now position index) }
 {
     place_answer(find(Cursor { position }, source, index))
 }
 
-#[unsafe(no_mangle)]
-pub extern "C" fn turgamysk_covenant_item<'a>(
+pub fn turgamysk_covenant_item<'a>(
     source: &[u8],
     starts: &'a [usize; 1000],
     lens: &'a [usize; 1000],
@@ -219,8 +204,7 @@ pub extern "C" fn turgamysk_covenant_item<'a>(
     place_answer(item(source, starts, lens, count, index))
 }
 
-#[unsafe(no_mangle)]
-pub extern "C" fn turgamysk_covenant_item_u8<'a>(
+pub fn turgamysk_covenant_item_u8<'a>(
     source: &[u8],
     starts: &'a [usize; 1000],
     lens: &'a [usize; 1000],
@@ -235,8 +219,7 @@ pub extern "C" fn turgamysk_covenant_item_u8<'a>(
     }
 }
 
-#[unsafe(no_mangle)]
-pub extern "C" fn turgamysk_covenant_item_u32<'a>(
+pub fn turgamysk_covenant_item_u32<'a>(
     source: &[u8],
     starts: &'a [usize; 1000],
     lens: &'a [usize; 1000],
@@ -251,8 +234,7 @@ pub extern "C" fn turgamysk_covenant_item_u32<'a>(
     }
 }
 
-#[unsafe(no_mangle)]
-pub extern "C" fn turgamysk_covenant_item_u64<'a>(
+pub fn turgamysk_covenant_item_u64<'a>(
     source: &[u8],
     starts: &'a [usize; 1000],
     lens: &'a [usize; 1000],
@@ -267,8 +249,7 @@ pub extern "C" fn turgamysk_covenant_item_u64<'a>(
     }
 }
 
-#[unsafe(no_mangle)]
-pub extern "C" fn turgamysk_covenant_item_name_hash<'a>(
+pub fn turgamysk_covenant_item_name_hash<'a>(
     source: &[u8],
     starts: &'a [usize; 1000],
     lens: &'a [usize; 1000],
@@ -286,8 +267,7 @@ pub extern "C" fn turgamysk_covenant_item_name_hash<'a>(
     answer.found
 }
 
-#[unsafe(no_mangle)]
-pub extern "C" fn turgamysk_covenant_encoded_size<'a>(
+pub fn turgamysk_covenant_encoded_size<'a>(
     source: &[u8],
     starts: &'a [usize; 1000],
     lens: &'a [usize; 1000],
@@ -300,22 +280,19 @@ pub extern "C" fn turgamysk_covenant_encoded_size<'a>(
 
 // ---- kinds
 
-#[unsafe(no_mangle)]
-pub extern "C" fn turgamysk_is_name(kind: u8) -> bool
+pub fn turgamysk_is_name(kind: u8) -> bool
     ensures { result ≡ is_name kind }
 {
     is_name(kind)
 }
 
-#[unsafe(no_mangle)]
-pub extern "C" fn turgamysk_is_linked(kind: u8) -> bool
+pub fn turgamysk_is_linked(kind: u8) -> bool
     ensures { result ≡ is_linked kind }
 {
     is_linked(kind)
 }
 
-#[unsafe(no_mangle)]
-pub extern "C" fn turgamysk_is_unspendable(kind: u8) -> bool
+pub fn turgamysk_is_unspendable(kind: u8) -> bool
     ensures { result ≡ is_unspendable kind }
 {
     is_unspendable(kind)

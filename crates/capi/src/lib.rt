@@ -1,5 +1,7 @@
 // The C boundary: each entry of the libraries under a C name, with its whole contract. bindings/c/turgamysk.h declares
 // them.
+#![tactic(auto)]
+
 pub mod amounts;
 pub mod items;
 pub mod lines;
@@ -29,35 +31,27 @@ use refusal::{Stop, carried_by, number};
 // The number of the interface that bindings/c/turgamysk.h declares.
 pub const VERSION: u32 = 1;
 
-#[unsafe(no_mangle)]
-pub extern "C" fn turgamysk_version() -> u32
+pub fn turgamysk_version() -> u32
     ensures { result ≡ version }
 {
     VERSION
 }
 
-#[unsafe(no_mangle)]
-pub extern "C" fn turgamysk_sha3_256(message: &[u8], digest: &mut [u8; 32])
+pub fn turgamysk_sha3_256(message: &[u8], digest: &mut [u8; 32])
     ensures { digest.new ≡ sha3 message.now }
 {
     let d = sha3::sha3_256(message);
     *digest = d;
 }
 
-#[unsafe(no_mangle)]
-pub extern "C" fn turgamysk_blake2b_256(message: &[u8], digest: &mut [u8; 32])
+pub fn turgamysk_blake2b_256(message: &[u8], digest: &mut [u8; 32])
     ensures { digest.new ≡ blake2b message.now }
 {
     let d = blake2b::blake2b_256(message);
     *digest = d;
 }
 
-#[unsafe(no_mangle)]
-pub extern "C" fn turgamysk_blake2b_256_value_nonce(
-    value: u64,
-    nonce: &[u8; 32],
-    digest: &mut [u8; 32],
-)
+pub fn turgamysk_blake2b_256_value_nonce(value: u64, nonce: &[u8; 32], digest: &mut [u8; 32])
     ensures { digest.new ≡ blake2b (bytes 8 value ++ nonce.now) }
 {
     let d = blake2b::blake2b_256_value_nonce(value, nonce);
@@ -180,19 +174,13 @@ fn write_answer(put: Put) -> WriteAnswer
     }
 }
 
-#[unsafe(no_mangle)]
-pub extern "C" fn turgamysk_covenant_read(
-    bytes: &[u8],
-    position: usize,
-    limit: usize,
-) -> CovenantAnswer
+pub fn turgamysk_covenant_read(bytes: &[u8], position: usize, limit: usize) -> CovenantAnswer
     ensures { result ≡ covenant_flat (skimmed (covenant_at limit bytes.now position)) }
 {
     covenant_answer(Covenant::read(Cursor { position }, bytes, limit))
 }
 
-#[unsafe(no_mangle)]
-pub extern "C" fn turgamysk_covenant_decode(
+pub fn turgamysk_covenant_decode(
     bytes: &[u8],
     starts: &mut [usize; 1000],
     lens: &mut [usize; 1000],
@@ -204,8 +192,7 @@ pub extern "C" fn turgamysk_covenant_decode(
     covenant_answer(Covenant::decode_into(bytes, starts, lens))
 }
 
-#[unsafe(no_mangle)]
-pub extern "C" fn turgamysk_covenant_decode_from(
+pub fn turgamysk_covenant_decode_from(
     bytes: &[u8],
     position: usize,
     limit: usize,
@@ -219,8 +206,7 @@ pub extern "C" fn turgamysk_covenant_decode_from(
     covenant_answer(Covenant::decode_from_into(Cursor { position }, bytes, limit, starts, lens))
 }
 
-#[unsafe(no_mangle)]
-pub extern "C" fn turgamysk_covenant_encode<'a>(
+pub fn turgamysk_covenant_encode<'a>(
     dest: &mut [u8],
     kind: u8,
     source: &[u8],

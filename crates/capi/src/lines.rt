@@ -10,16 +10,14 @@ use crate::{WriteAnswer, write_answer};
 use reports::link::link_line;
 use reports::name::name_line;
 
-#[unsafe(no_mangle)]
-pub extern "C" fn turgamysk_link_line(tx: &[u8], coins: &[u8], out: &mut [u8]) -> WriteAnswer
+pub fn turgamysk_link_line(tx: &[u8], coins: &[u8], out: &mut [u8]) -> WriteAnswer
     ensures value { result ≡ write_flat (put_answer 0 (link_line tx.now coins.now) out.old) }
     ensures out_after { out.new ≡ laid 0 (link_line tx.now coins.now) out.old }
 {
     write_answer(link_line(tx, coins, out))
 }
 
-#[unsafe(no_mangle)]
-pub extern "C" fn turgamysk_name_line(file: &[u8], out: &mut [u8]) -> WriteAnswer
+pub fn turgamysk_name_line(file: &[u8], out: &mut [u8]) -> WriteAnswer
     ensures value { result ≡ write_flat (put_answer 0 (name_line file.now) out.old) }
     ensures out_after { out.new ≡ laid 0 (name_line file.now) out.old }
 {

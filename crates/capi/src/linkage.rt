@@ -53,8 +53,7 @@ fn links_answer(verified: Verified) -> LinksAnswer
     }
 }
 
-#[unsafe(no_mangle)]
-pub extern "C" fn turgamysk_verify_covenant_links(tx: &[u8], coins: &[u8]) -> LinksAnswer
+pub fn turgamysk_verify_covenant_links(tx: &[u8], coins: &[u8]) -> LinksAnswer
     ensures { result ≡ links_flat (verify_of tx.now coins.now) }
 {
     links_answer(verify_covenant_links(tx, coins))

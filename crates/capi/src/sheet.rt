@@ -116,36 +116,31 @@ fn view_answer(view: View) -> ViewAnswer
     }
 }
 
-#[unsafe(no_mangle)]
-pub extern "C" fn turgamysk_judge_transaction(sheet: &[u8]) -> SheetAnswer
+pub fn turgamysk_judge_transaction(sheet: &[u8]) -> SheetAnswer
     ensures { result ≡ sheet_flat (transaction_counts sheet.now) }
 {
     sheet_answer(judge_transaction(sheet))
 }
 
-#[unsafe(no_mangle)]
-pub extern "C" fn turgamysk_judge_coins(sheet: &[u8]) -> SheetAnswer
+pub fn turgamysk_judge_coins(sheet: &[u8]) -> SheetAnswer
     ensures { result ≡ sheet_flat (coin_counts sheet.now) }
 {
     sheet_answer(judge_coins(sheet))
 }
 
-#[unsafe(no_mangle)]
-pub extern "C" fn turgamysk_sheet_input_at(sheet: &[u8], position: usize) -> OutpointAnswer
+pub fn turgamysk_sheet_input_at(sheet: &[u8], position: usize) -> OutpointAnswer
     ensures { result ≡ outpoint_flat (shown_outpoint (input_at sheet.now position)) }
 {
     outpoint_answer(input_at(Cursor { position }, sheet))
 }
 
-#[unsafe(no_mangle)]
-pub extern "C" fn turgamysk_sheet_place_at(sheet: &[u8], position: usize, side: u8) -> PlaceAnswer
+pub fn turgamysk_sheet_place_at(sheet: &[u8], position: usize, side: u8) -> PlaceAnswer
     ensures { result ≡ output_flat (place_at side sheet.now position) }
 {
     output_answer(place_at(Cursor { position }, sheet, side))
 }
 
-#[unsafe(no_mangle)]
-pub extern "C" fn turgamysk_view_item(
+pub fn turgamysk_view_item(
     tx: &[u8],
     coins: &[u8],
     side: u8,

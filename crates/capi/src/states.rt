@@ -23,8 +23,7 @@ use refusal::judgement_number;
 
 // ---- names
 
-#[unsafe(no_mangle)]
-pub extern "C" fn turgamysk_validate_name(name: &[u8]) -> u8
+pub fn turgamysk_validate_name(name: &[u8]) -> u8
     ensures { result ≡ pick (valid_name name.now) 0 6 }
 {
     if validate_name(name) {
@@ -33,8 +32,7 @@ pub extern "C" fn turgamysk_validate_name(name: &[u8]) -> u8
     6
 }
 
-#[unsafe(no_mangle)]
-pub extern "C" fn turgamysk_hash_name(name: &[u8], digest: &mut [u8; 32]) -> u8
+pub fn turgamysk_hash_name(name: &[u8], digest: &mut [u8; 32]) -> u8
     ensures value { result ≡ refused_by (name_hash name.now) }
     ensures digest_after { digest.new ≡ (shown_hash (name_hash name.now)).1 }
 {
@@ -46,8 +44,7 @@ pub extern "C" fn turgamysk_hash_name(name: &[u8], digest: &mut [u8; 32]) -> u8
     judgement_number(judgement)
 }
 
-#[unsafe(no_mangle)]
-pub extern "C" fn turgamysk_blind_bid(value: u64, nonce: &[u8; 32], digest: &mut [u8; 32])
+pub fn turgamysk_blind_bid(value: u64, nonce: &[u8; 32], digest: &mut [u8; 32])
     ensures { digest.new ≡ blind_of value nonce.now }
 {
     let d = blind_bid(Dollarydoos(value), nonce);
@@ -83,31 +80,27 @@ fn state_answer(decoded: Decoded) -> StateAnswer
     }
 }
 
-#[unsafe(no_mangle)]
-pub extern "C" fn turgamysk_name_state_decode(key: &[u8; 32], bytes: &[u8]) -> StateAnswer
+pub fn turgamysk_name_state_decode(key: &[u8; 32], bytes: &[u8]) -> StateAnswer
     ensures { result ≡ state_flat (shown_state (read_state key.now bytes.now)) }
 {
     let k = *key;
     state_answer(decode(NameHash(k), bytes))
 }
 
-#[unsafe(no_mangle)]
-pub extern "C" fn turgamysk_name_state_encode(state: NameState, dest: &mut [u8]) -> WriteAnswer
+pub fn turgamysk_name_state_encode(state: NameState, dest: &mut [u8]) -> WriteAnswer
     ensures value { result ≡ write_flat (encode_answer (state_of state) dest.old) }
     ensures dest_after { dest.new ≡ encode_content (state_of state) dest.old }
 {
     write_answer(encode(state, dest))
 }
 
-#[unsafe(no_mangle)]
-pub extern "C" fn turgamysk_name_state_encoded_size(state: NameState) -> WriteAnswer
+pub fn turgamysk_name_state_encoded_size(state: NameState) -> WriteAnswer
     ensures { result ≡ write_flat (checked_size (state_of state)) }
 {
     write_answer(encoded_size(state))
 }
 
-#[unsafe(no_mangle)]
-pub extern "C" fn turgamysk_name_state_class(state: NameState) -> u8
+pub fn turgamysk_name_state_class(state: NameState) -> u8
     ensures { result ≡ class_number (class_of (state_of state)) }
 {
     match state.class() {
@@ -117,8 +110,7 @@ pub extern "C" fn turgamysk_name_state_class(state: NameState) -> u8
     }
 }
 
-#[unsafe(no_mangle)]
-pub extern "C" fn turgamysk_name_state_owner_outpoint(state: NameState) -> OwnerAnswer
+pub fn turgamysk_name_state_owner_outpoint(state: NameState) -> OwnerAnswer
     ensures { result ≡ owner_flat (owner_of (state_of state)) }
 {
     let owner = state.owner_outpoint();
@@ -129,37 +121,32 @@ pub extern "C" fn turgamysk_name_state_owner_outpoint(state: NameState) -> Owner
     }
 }
 
-#[unsafe(no_mangle)]
-pub extern "C" fn turgamysk_name_state_bitmap(state: NameState) -> u16
+pub fn turgamysk_name_state_bitmap(state: NameState) -> u16
     ensures { result ≡ bitmap (state_of state) }
 {
     state.bitmap()
 }
 
-#[unsafe(no_mangle)]
-pub extern "C" fn turgamysk_name_state_validate_key_binding(state: NameState) -> u8
+pub fn turgamysk_name_state_validate_key_binding(state: NameState) -> u8
     ensures { result ≡ refused_by (binding (state_of state)) }
 {
     judgement_number(state.validate_key_binding())
 }
 
-#[unsafe(no_mangle)]
-pub extern "C" fn turgamysk_name_state_is_null(state: NameState) -> bool
+pub fn turgamysk_name_state_is_null(state: NameState) -> bool
     ensures { result ≡ null (state_of state) }
 {
     state.is_null()
 }
 
-#[unsafe(no_mangle)]
-pub extern "C" fn turgamysk_name_state_null(key: &[u8; 32]) -> NameState
+pub fn turgamysk_name_state_null(key: &[u8; 32]) -> NameState
     ensures { result ≡ stored (null_state key.now []) }
 {
     let k = *key;
     NameState::null(NameHash(k))
 }
 
-#[unsafe(no_mangle)]
-pub extern "C" fn turgamysk_name_state_same(state: NameState, other: NameState) -> bool
+pub fn turgamysk_name_state_same(state: NameState, other: NameState) -> bool
     ensures { result ≡ same_state (state_of state) (state_of other) }
 {
     state.same(other)

@@ -92,16 +92,14 @@ pub(crate) fn outpoint_answer(read: ReadOutpoint) -> OutpointAnswer
 
 // ---- reads
 
-#[unsafe(no_mangle)]
-pub extern "C" fn turgamysk_remaining(source: &[u8], position: usize) -> usize
+pub fn turgamysk_remaining(source: &[u8], position: usize) -> usize
     ensures { result ≡ remaining_at source.now position }
 {
     let c = Cursor { position };
     c.remaining(source)
 }
 
-#[unsafe(no_mangle)]
-pub extern "C" fn turgamysk_read_u8(source: &[u8], position: usize) -> NumberAnswer
+pub fn turgamysk_read_u8(source: &[u8], position: usize) -> NumberAnswer
     ensures { result ≡ number_flat (fixed_at 1 source.now position) }
 {
     let c = Cursor { position };
@@ -111,8 +109,7 @@ pub extern "C" fn turgamysk_read_u8(source: &[u8], position: usize) -> NumberAns
     }
 }
 
-#[unsafe(no_mangle)]
-pub extern "C" fn turgamysk_read_u16_le(source: &[u8], position: usize) -> NumberAnswer
+pub fn turgamysk_read_u16_le(source: &[u8], position: usize) -> NumberAnswer
     ensures { result ≡ number_flat (fixed_at 2 source.now position) }
 {
     let c = Cursor { position };
@@ -122,8 +119,7 @@ pub extern "C" fn turgamysk_read_u16_le(source: &[u8], position: usize) -> Numbe
     }
 }
 
-#[unsafe(no_mangle)]
-pub extern "C" fn turgamysk_read_u32_le(source: &[u8], position: usize) -> NumberAnswer
+pub fn turgamysk_read_u32_le(source: &[u8], position: usize) -> NumberAnswer
     ensures { result ≡ number_flat (fixed_at 4 source.now position) }
 {
     let c = Cursor { position };
@@ -133,8 +129,7 @@ pub extern "C" fn turgamysk_read_u32_le(source: &[u8], position: usize) -> Numbe
     }
 }
 
-#[unsafe(no_mangle)]
-pub extern "C" fn turgamysk_read_u64_le(source: &[u8], position: usize) -> NumberAnswer
+pub fn turgamysk_read_u64_le(source: &[u8], position: usize) -> NumberAnswer
     ensures { result ≡ number_flat (fixed_at 8 source.now position) }
 {
     let c = Cursor { position };
@@ -144,8 +139,7 @@ pub extern "C" fn turgamysk_read_u64_le(source: &[u8], position: usize) -> Numbe
     }
 }
 
-#[unsafe(no_mangle)]
-pub extern "C" fn turgamysk_read_compact_size(source: &[u8], position: usize) -> NumberAnswer
+pub fn turgamysk_read_compact_size(source: &[u8], position: usize) -> NumberAnswer
     ensures { result ≡ number_flat (compact_at source.now position) }
 {
     let c = Cursor { position };
@@ -155,12 +149,7 @@ pub extern "C" fn turgamysk_read_compact_size(source: &[u8], position: usize) ->
     }
 }
 
-#[unsafe(no_mangle)]
-pub extern "C" fn turgamysk_read_compact_usize(
-    source: &[u8],
-    position: usize,
-    maximum: usize,
-) -> NumberAnswer
+pub fn turgamysk_read_compact_usize(source: &[u8], position: usize, maximum: usize) -> NumberAnswer
     ensures { result ≡ number_flat (compact_most maximum source.now position) }
 {
     let c = Cursor { position };
@@ -170,16 +159,14 @@ pub extern "C" fn turgamysk_read_compact_usize(
     }
 }
 
-#[unsafe(no_mangle)]
-pub extern "C" fn turgamysk_read_slice(source: &[u8], position: usize, size: usize) -> SpanAnswer
+pub fn turgamysk_read_slice(source: &[u8], position: usize, size: usize) -> SpanAnswer
     ensures { result ≡ span_flat (slice_at size source.now position) }
 {
     let c = Cursor { position };
     span_answer(c.read_slice(source, size))
 }
 
-#[unsafe(no_mangle)]
-pub extern "C" fn turgamysk_read_bounded(
+pub fn turgamysk_read_bounded(
     source: &[u8],
     position: usize,
     size: usize,
@@ -191,24 +178,14 @@ pub extern "C" fn turgamysk_read_bounded(
     span_answer(c.read_bounded(source, size, maximum))
 }
 
-#[unsafe(no_mangle)]
-pub extern "C" fn turgamysk_read_varbytes(
-    source: &[u8],
-    position: usize,
-    maximum: usize,
-) -> SpanAnswer
+pub fn turgamysk_read_varbytes(source: &[u8], position: usize, maximum: usize) -> SpanAnswer
     ensures { result ≡ span_flat (varbytes_at maximum source.now position) }
 {
     let c = Cursor { position };
     span_answer(c.read_varbytes(source, maximum))
 }
 
-#[unsafe(no_mangle)]
-pub extern "C" fn turgamysk_read_array(
-    source: &[u8],
-    position: usize,
-    array: &mut [u8; 32],
-) -> FlatStop
+pub fn turgamysk_read_array(source: &[u8], position: usize, array: &mut [u8; 32]) -> FlatStop
     ensures value { result ≡ moved_flat (shown_bytes 32 (bytes_at 32 source.now position)).0 }
     ensures array_after { array.new ≡ (shown_bytes 32 (bytes_at 32 source.now position)).1 }
 {
@@ -220,8 +197,7 @@ pub extern "C" fn turgamysk_read_array(
     moved_answer(moved)
 }
 
-#[unsafe(no_mangle)]
-pub extern "C" fn turgamysk_finish(source: &[u8], position: usize) -> FlatStop
+pub fn turgamysk_finish(source: &[u8], position: usize) -> FlatStop
     ensures { result ≡ moved_flat (finish_at source.now position) }
 {
     let c = Cursor { position };
@@ -230,64 +206,56 @@ pub extern "C" fn turgamysk_finish(source: &[u8], position: usize) -> FlatStop
 
 // ---- writes
 
-#[unsafe(no_mangle)]
-pub extern "C" fn turgamysk_put_u8(dest: &mut [u8], at: usize, value: u8) -> WriteAnswer
+pub fn turgamysk_put_u8(dest: &mut [u8], at: usize, value: u8) -> WriteAnswer
     ensures value { result ≡ write_flat (put_answer at (bytes 1 value) dest.old) }
     ensures dest_after { dest.new ≡ laid at (bytes 1 value) dest.old }
 {
     write_answer(put_u8(dest, at, value))
 }
 
-#[unsafe(no_mangle)]
-pub extern "C" fn turgamysk_put_u16_le(dest: &mut [u8], at: usize, value: u16) -> WriteAnswer
+pub fn turgamysk_put_u16_le(dest: &mut [u8], at: usize, value: u16) -> WriteAnswer
     ensures value { result ≡ write_flat (put_answer at (bytes 2 value) dest.old) }
     ensures dest_after { dest.new ≡ laid at (bytes 2 value) dest.old }
 {
     write_answer(put_u16_le(dest, at, value))
 }
 
-#[unsafe(no_mangle)]
-pub extern "C" fn turgamysk_put_u32_le(dest: &mut [u8], at: usize, value: u32) -> WriteAnswer
+pub fn turgamysk_put_u32_le(dest: &mut [u8], at: usize, value: u32) -> WriteAnswer
     ensures value { result ≡ write_flat (put_answer at (bytes 4 value) dest.old) }
     ensures dest_after { dest.new ≡ laid at (bytes 4 value) dest.old }
 {
     write_answer(put_u32_le(dest, at, value))
 }
 
-#[unsafe(no_mangle)]
-pub extern "C" fn turgamysk_put_u64_le(dest: &mut [u8], at: usize, value: u64) -> WriteAnswer
+pub fn turgamysk_put_u64_le(dest: &mut [u8], at: usize, value: u64) -> WriteAnswer
     ensures value { result ≡ write_flat (put_answer at (bytes 8 value) dest.old) }
     ensures dest_after { dest.new ≡ laid at (bytes 8 value) dest.old }
 {
     write_answer(put_u64_le(dest, at, value))
 }
 
-#[unsafe(no_mangle)]
-pub extern "C" fn turgamysk_put_bytes(dest: &mut [u8], at: usize, value: &[u8]) -> WriteAnswer
+pub fn turgamysk_put_bytes(dest: &mut [u8], at: usize, value: &[u8]) -> WriteAnswer
     ensures value { result ≡ write_flat (put_answer at value.now dest.old) }
     ensures dest_after { dest.new ≡ laid at value.now dest.old }
 {
     write_answer(put_bytes(dest, at, value))
 }
 
-#[unsafe(no_mangle)]
-pub extern "C" fn turgamysk_put_compact_size(dest: &mut [u8], at: usize, value: u64) -> WriteAnswer
+pub fn turgamysk_put_compact_size(dest: &mut [u8], at: usize, value: u64) -> WriteAnswer
     ensures value { result ≡ write_flat (put_answer at (compact value) dest.old) }
     ensures dest_after { dest.new ≡ laid at (compact value) dest.old }
 {
     write_answer(put_compact_size(dest, at, value))
 }
 
-#[unsafe(no_mangle)]
-pub extern "C" fn turgamysk_put_varbytes(dest: &mut [u8], at: usize, value: &[u8]) -> WriteAnswer
+pub fn turgamysk_put_varbytes(dest: &mut [u8], at: usize, value: &[u8]) -> WriteAnswer
     ensures value { result ≡ write_flat (put_answer at (varbytes value.now) dest.old) }
     ensures dest_after { dest.new ≡ laid at (varbytes value.now) dest.old }
 {
     write_answer(put_varbytes(dest, at, value))
 }
 
-#[unsafe(no_mangle)]
-pub extern "C" fn turgamysk_compact_size_len(value: u64) -> usize
+pub fn turgamysk_compact_size_len(value: u64) -> usize
     ensures { result ≡ compact_size value }
 {
     compact_size_len(value)
@@ -295,31 +263,27 @@ pub extern "C" fn turgamysk_compact_size_len(value: u64) -> usize
 
 // ---- outpoints
 
-#[unsafe(no_mangle)]
-pub extern "C" fn turgamysk_outpoint_decode(source: &[u8], position: usize) -> OutpointAnswer
+pub fn turgamysk_outpoint_decode(source: &[u8], position: usize) -> OutpointAnswer
     ensures { result ≡ outpoint_flat (shown_outpoint (outpoint_at source.now position)) }
 {
     let c = Cursor { position };
     outpoint_answer(Outpoint::decode(c, source))
 }
 
-#[unsafe(no_mangle)]
-pub extern "C" fn turgamysk_outpoint_encode(outpoint: Outpoint, encoded: &mut [u8; 36])
+pub fn turgamysk_outpoint_encode(outpoint: Outpoint, encoded: &mut [u8; 36])
     ensures { encoded.new ≡ outpoint_bytes outpoint }
 {
     let e = outpoint.encode();
     *encoded = e;
 }
 
-#[unsafe(no_mangle)]
-pub extern "C" fn turgamysk_outpoint_same(outpoint: Outpoint, other: Outpoint) -> bool
+pub fn turgamysk_outpoint_same(outpoint: Outpoint, other: Outpoint) -> bool
     ensures { result ≡ same_outpoint outpoint other }
 {
     outpoint.same(other)
 }
 
-#[unsafe(no_mangle)]
-pub extern "C" fn turgamysk_outpoint_is_null(outpoint: Outpoint) -> bool
+pub fn turgamysk_outpoint_is_null(outpoint: Outpoint) -> bool
     ensures { result ≡ is_null outpoint }
 {
     outpoint.is_null()

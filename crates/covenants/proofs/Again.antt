@@ -14,7 +14,7 @@ use Rattle.encoding.proofs.Found.{Found, join, found-fixed, found-most, found-sl
 use Rattle.covenants.specs.Covenant.{item_at, Reading, covenant_at, bytes_in, contents}
 use Rattle.covenants.specs.Written.{covenant_bytes}
 use Rattle.words.proofs.Le.{part-long}
-use Rattle.covenants.proofs.Moves.{item-read, head_read, covenant-accepted}
+use Rattle.covenants.proofs.Moves.{item-read, head_read, covenant_accepted}
 
 -- how long it is
 pub found-long : {s bs : List ℕ} {at p : ℕ} → Found s at bs p → at ≤ p → p ≤ length s → length bs ≡ p - at
@@ -36,7 +36,7 @@ module _ (s : List ℕ) (small : Bytes s) (big : length s < 2 ^ 64) where
   pub found-covenant : (limit at : ℕ) {c : Reading} {end : ℕ} → covenant_at limit s at ≡ ok c end → Found s at (covenant_bytes c.kind (contents s c.items)) end
   unfolding bytes covenant_bytes
   found-covenant limit at {c} {end} e =
-      let a = covenant-accepted limit s at e in
+      let a = covenant_accepted limit s at e in
       let h = head_read (min limit 1000009) s at big a.head in
       let byte : c.kind < 256 = fixed-under 1 s at small h.kind in
       let kind = found-fixed s small big 1 at h.kind in

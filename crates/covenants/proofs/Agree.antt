@@ -15,8 +15,8 @@ use Rattle.covenants.specs.Covenant.{item_at, head_at, Reading, covenant_at}
 use Rattle.covenants.specs.Items.{found, nth, seek_at, directory_item}
 use Rattle.words.specs.Buffers.{zero_padded}
 use Rattle.covenants.specs.Paper.{listed, directory_of}
-use Rattle.covenants.specs.Workers.{starts-of, lens-of}
-use Rattle.covenants.proofs.Moves.{item-read, head_read, covenant-accepted}
+use Rattle.covenants.specs.Workers.{starts_of, lens_of}
+use Rattle.covenants.proofs.Moves.{item-read, head_read, covenant_accepted}
 
 nth-none : (xs : List (ℕ × ℕ)) (k : ℕ) → length xs ≤ k → nth xs k ≡ none
 unfolding nth
@@ -47,15 +47,15 @@ seek-read s at index {kind} {n} {first} {xs} e many long =
 
 pub seek_finds : (s : List ℕ) (at index : ℕ) {r : Reading} {end : ℕ} → covenant_at 1000009 s at ≡ ok r end → seek_at s at index ≡ nth r.items index
 seek_finds s at index {r} e =
-    let a = covenant-accepted 1000009 s at e in
+    let a = covenant_accepted 1000009 s at e in
     seek-read s at index a.head a.items refl
 
 -- an item that was read: its entries in the directory, and that it lies within
 record Entry (s : List ℕ) (xs : List (ℕ × ℕ)) (k : ℕ) : Type 0 where
   part : ℕ × ℕ
   is : nth xs k ≡ some part
-  starts : get_or (starts-of xs) k 0 ≡ part.0
-  size : get_or (lens-of xs) k 0 ≡ part.1
+  starts : get_or (starts_of xs) k 0 ≡ part.0
+  size : get_or (lens_of xs) k 0 ≡ part.1
   fits : part.0 + part.1 ≤ length s
 
 entry : (allowance start : ℕ) (s : List ℕ) → length s < 2 ^ 64 → (k n at : ℕ) {xs : List (ℕ × ℕ)} {end : ℕ} → k < n → many_at (item_at allowance start s) n at ≡ ok xs end → Entry s xs k
@@ -72,14 +72,14 @@ entry allowance start s big (suc k) (suc n) at h e =
 
 -- the directory of those items
 directory-entry : (s : List ℕ) (xs : List (ℕ × ℕ)) (k : ℕ) → k < length xs → length xs ≤ 1000 → Entry s xs k
-    → directory_item s (listed (starts-of xs)) (listed (lens-of xs)) (length xs) k ≡ nth xs k
+    → directory_item s (listed (starts_of xs)) (listed (lens_of xs)) (length xs) k ≡ nth xs k
 unfolding zero_padded directory_item
 directory-entry s xs k h few i =
-    let a : get_or (listed (starts-of xs)) k 0 ≡ i.part.0 = get_or-append (starts-of xs) _ 0 k (rw length-map h) ∙ i.starts in
-    let b : get_or (listed (lens-of xs)) k 0 ≡ i.part.1 = get_or-append (lens-of xs) _ 0 k (rw length-map h) ∙ i.size in
+    let a : get_or (listed (starts_of xs)) k 0 ≡ i.part.0 = get_or-append (starts_of xs) _ 0 k (rw length-map h) ∙ i.starts in
+    let b : get_or (listed (lens_of xs)) k 0 ≡ i.part.1 = get_or-append (lens_of xs) _ 0 k (rw length-map h) ∙ i.size in
     rw (a, b, lt-ltb k (length xs) h, lt-ltb k 1000 (omega arith), le-leb (i.part.0 + i.part.1) (length s) i.fits) (sym i.is)
 
-directory-none : (s : List ℕ) (xs : List (ℕ × ℕ)) (k : ℕ) → length xs ≤ k → directory_item s (listed (starts-of xs)) (listed (lens-of xs)) (length xs) k ≡ nth xs k
+directory-none : (s : List ℕ) (xs : List (ℕ × ℕ)) (k : ℕ) → length xs ≤ k → directory_item s (listed (starts_of xs)) (listed (lens_of xs)) (length xs) k ≡ nth xs k
 unfolding directory_item
 directory-none s xs k h = rw (le-ltb k (length xs) h) (sym (nth-none xs k h))
 
@@ -87,7 +87,7 @@ pub directory-holds : (limit : ℕ) (s : List ℕ) (at index : ℕ) {r : Reading
     → directory_item s (directory_of (ok r end)).starts (directory_of (ok r end)).lens (directory_of (ok r end)).count index ≡ nth r.items index
 unfolding directory_of
 directory-holds limit s at index {r} big e =
-    let a = covenant-accepted limit s at e in
+    let a = covenant_accepted limit s at e in
     let few = (head_read (min limit 1000009) s at (omega arith) a.head).few in
     by_order index (length r.items)
     (λ h. directory-entry s r.items index h few (entry (min limit 1000009) at s (omega arith) index (length r.items) a.first h a.items))
@@ -96,7 +96,7 @@ directory-holds limit s at index {r} big e =
 -- an item of an accepted covenant lies within the bytes
 pub nth_inside : (s : List ℕ) (at k : ℕ) {r : Reading} {end : ℕ} {part : ℕ × ℕ} → length s < 2 ^ 64 → covenant_at 1000009 s at ≡ ok r end → nth r.items k ≡ some part → part.0 + part.1 ≤ length s
 nth_inside s at k {r} {end} {part} big e f =
-    let a = covenant-accepted 1000009 s at e in
+    let a = covenant_accepted 1000009 s at e in
     by_order k (length r.items)
     (λ h.
     let x = entry 1000009 at s big k (length r.items) a.first h a.items in

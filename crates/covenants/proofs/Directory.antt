@@ -10,7 +10,7 @@ use Rattle.refusal.specs.Outcome.{Stand, Outcome, ok, err, then, past, many_at, 
 use Rattle.refusal.proofs.Outcomes.{never}
 use Rattle.covenants.specs.Covenant.{item_at, head_at, Reading, Skimmed, finished, opening, covenant_at, skimmed}
 use Rattle.covenants.specs.Paper.{listed, directory_of, shown_covenant}
-use Rattle.covenants.specs.Workers.{starts-of, lens-of, Filling}
+use Rattle.covenants.specs.Workers.{starts_of, lens_of, Filling}
 use Rattle.covenants.specs.declared.Covenant.{Covenant}
 use Rattle.covenants.proofs.Moves.{skim-body}
 
@@ -46,16 +46,16 @@ module _ (read : ℕ → Outcome (ℕ × ℕ)) where
     more {part} {next} h later e =
         let k : count - i ≡ suc (count - (i + 1)) = omega arith in
         let done = r.done in
-        let fs : length (starts-of done) ≡ i = length-map done (λ x. x.0) ∙ r.long in
-        let ss : length (lens-of done) ≡ i = length-map done (λ x. x.1) ∙ r.long in
+        let fs : length (starts_of done) ≡ i = length-map done (λ x. x.0) ∙ r.long in
+        let ss : length (lens_of done) ≡ i = length-map done (λ x. x.1) ∙ r.long in
         record {
           bound = omega arith;
           few = r.few;
           later = later;
           done = done ++ (part ∷ []);
           long = length-append done (part ∷ []) ∙ omega (arith, r.long);
-          firsts = rw (r.firsts, ← fs, map_snoc) (listed_more (starts-of done) part.0 (omega (arith, r.few)));
-          sizes = rw (r.sizes, ← ss, map_snoc) (listed_more (lens-of done) part.1 (omega (arith, r.few)));
+          firsts = rw (r.firsts, ← fs, map_snoc) (listed_more (starts_of done) part.0 (omega (arith, r.few)));
+          sizes = rw (r.sizes, ← ss, map_snoc) (listed_more (lens_of done) part.1 (omega (arith, r.few)));
           rest = go (many_at read (count - (i + 1)) next) ∙ (rw (k, e) at r.rest);
         }
       where
@@ -82,26 +82,26 @@ module _ (read : ℕ → Outcome (ℕ × ℕ)) where
     abbrev pub Kept : Outcome Unit → List ℕ → List ℕ → Type 0
     Kept o starts' lens' =
         (o ≡ past (many_at read count from))
-        × ((starts' ≡ listed (starts-of (list_of (many_at read count from)))) × (lens' ≡ listed (lens-of (list_of (many_at read count from)))))
+        × ((starts' ≡ listed (starts_of (list_of (many_at read count from)))) × (lens' ≡ listed (lens_of (list_of (many_at read count from)))))
 
     pub all-kept : count ≤ i → Kept (ok tt at) starts lens
     all-kept h =
         let e = ended h in
-        (ap past e, (r.firsts ∙ ap (λ o. listed (starts-of (list_of o))) e, r.sizes ∙ ap (λ o. listed (lens-of (list_of o))) e))
+        (ap past e, (r.firsts ∙ ap (λ o. listed (starts_of (list_of o))) e, r.sizes ∙ ap (λ o. listed (lens_of (list_of o))) e))
 
     pub none_kept : {k : ℕ} {vs : List ℕ} {p : Stand} {starts' lens' : List ℕ} → i < count → read at ≡ err k vs p → (starts' ≡ listed []) × (lens' ≡ listed []) → Kept (err k vs p) starts' lens'
     none_kept h f zeros =
         let e = stopped h f in
-        (ap past e, (zeros.0 ∙ ap (λ o. listed (starts-of (list_of o))) e, zeros.1 ∙ ap (λ o. listed (lens-of (list_of o))) e))
+        (ap past e, (zeros.0 ∙ ap (λ o. listed (starts_of (list_of o))) e, zeros.1 ∙ ap (λ o. listed (lens_of (list_of o))) e))
 
 -- ---- the directory of a covenant is that of its items
 
-pub starts-kept : (o : Outcome (List (ℕ × ℕ))) (kind start : ℕ) → listed (starts-of (list_of o)) ≡ (directory_of (then o (finished kind start))).starts
+pub starts-kept : (o : Outcome (List (ℕ × ℕ))) (kind start : ℕ) → listed (starts_of (list_of o)) ≡ (directory_of (then o (finished kind start))).starts
 unfolding directory_of
 starts-kept (ok items end) kind start = refl
 starts-kept (err k vs p) kind start = refl
 
-pub lens-kept : (o : Outcome (List (ℕ × ℕ))) (kind start : ℕ) → listed (lens-of (list_of o)) ≡ (directory_of (then o (finished kind start))).lens
+pub lens-kept : (o : Outcome (List (ℕ × ℕ))) (kind start : ℕ) → listed (lens_of (list_of o)) ≡ (directory_of (then o (finished kind start))).lens
 unfolding directory_of
 lens-kept (ok items end) kind start = refl
 lens-kept (err k vs p) kind start = refl
@@ -121,7 +121,7 @@ tells-refused e zeros = rw e (refl, zeros)
 -- a covenant from its head on
 pub tells-kept : (limit : ℕ) (s : List ℕ) (at : ℕ) {allowance : ℕ} → allowance ≡ min limit 1000009 → {head : ℕ × ℕ} {next : ℕ} → opening allowance s at (head_at allowance s at) ≡ ok head next
     → {said : Outcome Skimmed} {starts lens : List ℕ} → said ≡ skimmed (covenant_at limit s at)
-    → (starts ≡ listed (starts-of (list_of (many_at (item_at allowance at s) head.1 next)))) × (lens ≡ listed (lens-of (list_of (many_at (item_at allowance at s) head.1 next))))
+    → (starts ≡ listed (starts_of (list_of (many_at (item_at allowance at s) head.1 next)))) × (lens ≡ listed (lens_of (list_of (many_at (item_at allowance at s) head.1 next))))
     → Tells (covenant_at limit s at) said starts lens
 tells-kept limit s at {allowance} capped {head} {next} e said both =
     let items = many_at (item_at allowance at s) head.1 next in

@@ -208,8 +208,8 @@ pub record Accepted (allowance : ℕ) (s : List ℕ) (at : ℕ) (c : Reading) (e
   pub used : c.used ≡ end - at
   pub enough : 2 ≤ allowance
 
-pub covenant-accepted : (limit : ℕ) (s : List ℕ) (at : ℕ) {c : Reading} {end : ℕ} → covenant_at limit s at ≡ ok c end → Accepted (min limit 1000009) s at c end
-covenant-accepted limit s at {c} {end} e =
+pub covenant_accepted : (limit : ℕ) (s : List ℕ) (at : ℕ) {c : Reading} {end : ℕ} → covenant_at limit s at ≡ ok c end → Accepted (min limit 1000009) s at c end
+covenant_accepted limit s at {c} {end} e =
     let allowance = min limit 1000009 in
     let e' = sym (covenant-opened limit s at refl) ∙ e in
     let one = then_ok (opening allowance s at (head_at allowance s at)) e' in
@@ -233,7 +233,7 @@ covenant-accepted limit s at {c} {end} e =
 -- it takes two bytes at least, and stays within
 pub covenant-moves : (limit : ℕ) (s : List ℕ) (at : ℕ) {c : Reading} {end : ℕ} → length s < 2 ^ 64 → covenant_at limit s at ≡ ok c end → (at + 2 ≤ end) × (end ≤ length s)
 covenant-moves limit s at {c} {end} big e =
-    let a = covenant-accepted limit s at e in
+    let a = covenant_accepted limit s at e in
     let h = head_read (min limit 1000009) s at big a.head in
     let m = items-move (min limit 1000009) at s big (length c.items) a.first a.items in
     (omega (arith, h.later, m.0), m.1 h.fits)

@@ -18,9 +18,9 @@ use Rattle.encoding.proofs.Back.{Stands, stands_here, stands-next}
 use Rattle.covenants.specs.Covenant.{Reading, covenant_at, contents, bytes_in}
 use Rattle.covenants.specs.Written.{covenant_bytes, items_size, covenant_size, parts, Held, size_answer, directory_bytes, encode_answer, encode_content}
 use Rattle.covenants.specs.Paper.{listed, directory_of}
-use Rattle.covenants.specs.Workers.{starts-of, lens-of}
+use Rattle.covenants.specs.Workers.{starts_of, lens_of}
 use Rattle.covenants.specs.Theorems.{Meant, written, Writable, AcceptedIsWritable, WritableIsAccepted, EncodeWrites, DirectoryIsTable, WrittenAgain, CovenantReadsBack, AcceptedIsWritten, UsedIsSize, SizeIsLength, AllowanceGrows, FindFindsItem, DirectoryHoldsItem}
-use Rattle.covenants.proofs.Moves.{head_read, covenant-accepted, covenant-moves}
+use Rattle.covenants.proofs.Moves.{head_read, covenant_accepted, covenant-moves}
 use Rattle.covenants.proofs.Checks.{length-parts, covenant-long, checks-passed, size_is, answer-is, content-is}
 use Rattle.covenants.proofs.Writable.{held-passes, sizes-pass, written-long, parts-listed, items_lie}
 use Rattle.covenants.proofs.Back.{Again, covenant-back}
@@ -101,14 +101,14 @@ accepted-is-written limit s at r end small big e =
 pub used-is-size : UsedIsSize
 used-is-size limit s at r end small big e =
     let n = accepted-long limit s at small big e in
-    let used = (covenant-accepted limit s at e).used in
+    let used = (covenant_accepted limit s at e).used in
     (used ∙ sym n.0 ∙ covenant-long r.kind (contents s r.items), omega arith)
 
 -- a covenant that was read is writable
 accepted-writable : (limit : ℕ) (s : List ℕ) (at : ℕ) {r : Reading} {end : ℕ} → Bytes s → Lent s → covenant_at limit s at ≡ ok r end
     → Writable (record { kind = r.kind; items = contents s r.items }) × Held (length s) r.items
 accepted-writable limit s at {r} {end} small big e =
-    let a = covenant-accepted limit s at e in
+    let a = covenant_accepted limit s at e in
     let h = head_read (min limit 1000009) s at (omega arith) a.head in
     let i = items_lie (min limit 1000009) at s (omega arith) (length r.items) a.first a.items in
     let n = accepted-long limit s at small big e in
@@ -126,13 +126,13 @@ pub written-again : WrittenAgain
 unfolding directory_of
 written-again limit s at r end small big e =
     let xs : List (ℕ × ℕ) = r.items in
-    let starts : List ℕ = listed (starts-of xs) in
-    let lens : List ℕ = listed (lens-of xs) in
+    let starts : List ℕ = listed (starts_of xs) in
+    let lens : List ℕ = listed (lens_of xs) in
     let count : ℕ = length xs in
     let same : parts starts lens 0 count ≡ xs = parts-listed xs in
     let many : length (contents s xs) ≡ count = length-map xs (bytes_in s) in
     let w = accepted-writable limit s at small big e in
-    let used = (covenant-accepted limit s at e).used in
+    let used = (covenant_accepted limit s at e).used in
     let long : length (directory_bytes r.kind s starts lens count) ≡ r.used = rw same ((accepted-long limit s at small big e).0 ∙ sym used) in
     let means : directory_bytes r.kind s starts lens count ≡ take r.used (drop at s) = rw (same, used) (accepted-is-written limit s at r end small big e) in
     let size : size_answer s starts lens count ≡ wrote r.used =

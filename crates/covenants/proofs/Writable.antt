@@ -17,7 +17,7 @@ use Rattle.covenants.specs.Covenant.{item_at, bytes_in, contents}
 use Rattle.covenants.specs.Written.{items_size, parts, Held, held_from, size_from}
 use Rattle.covenants.specs.Theorems.{Short}
 use Rattle.covenants.specs.Paper.{listed}
-use Rattle.covenants.specs.Workers.{starts-of, lens-of}
+use Rattle.covenants.specs.Workers.{starts_of, lens_of}
 use Rattle.covenants.proofs.Moves.{item-read}
 
 -- ---- the checks pass
@@ -58,14 +58,14 @@ unfolding parts
 parts-later a b firsts sizes i zero = refl
 parts-later a b firsts sizes i (suc n) = ap (λ ps. (get_or firsts i 0, get_or sizes i 0) ∷ ps) (parts-later a b firsts sizes (suc i) n)
 
-parts_first : (xs : List (ℕ × ℕ)) (firsts sizes : List ℕ) → parts (starts-of xs ++ firsts) (lens-of xs ++ sizes) 0 (length xs) ≡ xs
+parts_first : (xs : List (ℕ × ℕ)) (firsts sizes : List ℕ) → parts (starts_of xs ++ firsts) (lens_of xs ++ sizes) 0 (length xs) ≡ xs
 unfolding parts
 parts_first [] firsts sizes = refl
-parts_first (x ∷ xs) firsts sizes = ap (λ ps. x ∷ ps) (parts-later x.0 x.1 (starts-of xs ++ firsts) (lens-of xs ++ sizes) 0 (length xs) ∙ parts_first xs firsts sizes)
+parts_first (x ∷ xs) firsts sizes = ap (λ ps. x ∷ ps) (parts-later x.0 x.1 (starts_of xs ++ firsts) (lens_of xs ++ sizes) 0 (length xs) ∙ parts_first xs firsts sizes)
 
-pub parts-listed : (xs : List (ℕ × ℕ)) → parts (listed (starts-of xs)) (listed (lens-of xs)) 0 (length xs) ≡ xs
+pub parts-listed : (xs : List (ℕ × ℕ)) → parts (listed (starts_of xs)) (listed (lens_of xs)) 0 (length xs) ≡ xs
 unfolding zero_padded
-parts-listed xs = parts_first xs (replicate (1000 - length (starts-of xs)) 0) (replicate (1000 - length (lens-of xs)) 0)
+parts-listed xs = parts_first xs (replicate (1000 - length (starts_of xs)) 0) (replicate (1000 - length (lens_of xs)) 0)
 
 -- ---- items that were read lie within, are short, and stay within the allowance
 

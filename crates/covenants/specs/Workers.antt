@@ -5,11 +5,11 @@ use Rattle.refusal.specs.Outcome.{Outcome, ok, then, many_at}
 use Rattle.covenants.specs.Covenant.{max_items}
 use Rattle.covenants.specs.Paper.{listed}
 
-abbrev pub starts-of : List (ℕ × ℕ) → List ℕ
-starts-of = map (λ (i : ℕ × ℕ). i.0)
+abbrev pub starts_of : List (ℕ × ℕ) → List ℕ
+starts_of = map (λ (i : ℕ × ℕ). i.0)
 
-abbrev pub lens-of : List (ℕ × ℕ) → List ℕ
-lens-of = map (λ (i : ℕ × ℕ). i.1)
+abbrev pub lens_of : List (ℕ × ℕ) → List ℕ
+lens_of = map (λ (i : ℕ × ℕ). i.1)
 
 -- after i of count items: those that were read stand in the directory, and what is left gives the rest of the answer
 pub record Filling (read : ℕ → Outcome (ℕ × ℕ)) (start count from : ℕ) (starts lens : List ℕ) (at i : ℕ) : Type 0 where
@@ -18,8 +18,8 @@ pub record Filling (read : ℕ → Outcome (ℕ × ℕ)) (start count from : ℕ
   pub later : start ≤ at
   pub done : List (ℕ × ℕ)
   pub long : length done ≡ i
-  pub firsts : starts ≡ listed (starts-of done)
-  pub sizes : lens ≡ listed (lens-of done)
+  pub firsts : starts ≡ listed (starts_of done)
+  pub sizes : lens ≡ listed (lens_of done)
   pub rest : then (many_at read (count - i) at) (λ more end. ok (done ++ more) end) ≡ many_at read count from
 
 -- so many entries of a list, from the first on, are there

@@ -4,7 +4,7 @@ ghost use Rattle.refusal.specs.Outcome.{Outcome, past, many_at, list_of};
 ghost use Rattle.encoding.specs.Paper.{moved_paper};
 ghost use Rattle.covenants.specs.Covenant.{max_items, max_encoded_size, Reading, item_at, covenant_at, whole_covenant, skimmed};
 ghost use Rattle.covenants.specs.Paper.{covenant_paper, listed, directory_of, decoded_paper, shown_covenant};
-ghost use Rattle.covenants.specs.Workers.{starts-of, lens-of};
+ghost use Rattle.covenants.specs.Workers.{starts_of, lens_of};
 
 use crate::short::short_entries;
 use crate::{Covenant, ReadCovenant, ReadHead, capped, completed, opened, read_item, too_large};
@@ -37,8 +37,8 @@ fn fill(
 ) -> Moved
     requires { (start ≤ from.position) × (count ≤ max_items) }
     ensures result_value { moved_paper result ≡ past (many_at (item_at allowance start s.now) count from.position) }
-    ensures starts_after { starts.new ≡ listed (starts-of (list_of (many_at (item_at allowance start s.now) count from.position))) }
-    ensures lens_after { lens.new ≡ listed (lens-of (list_of (many_at (item_at allowance start s.now) count from.position))) }
+    ensures starts_after { starts.new ≡ listed (starts_of (list_of (many_at (item_at allowance start s.now) count from.position))) }
+    ensures lens_after { lens.new ≡ listed (lens_of (list_of (many_at (item_at allowance start s.now) count from.position))) }
 {
     clear(starts, lens);
     let mut passed: usize = 0;

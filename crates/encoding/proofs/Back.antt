@@ -4,16 +4,16 @@ use Prim.Native.Nat.{ℕ, ◌+◌, ◌^◌, ◌≤◌, ◌<◌}
 use native.Mathlib.Omega.{arith}
 use native.Mathlib.Nat.{mod-eq_of_lt}
 use mathlib.Core.List.{List, [], ◌∷◌, ◌++◌, map, append_assoc}
-use lib.ListN.{length, take, drop, length-append, length-drop}
+use lib.ListN.{length, drop, length-append, length-drop}
 use lib.Seq.{take_at, drop_at, drop-drop, drop-append_seam}
 use borrow.Author.Tests.{le-ltb, lt-ltb}
-use Rattle.words.specs.Words.{le, bytes}
+use Rattle.words.specs.Words.{bytes}
 use Rattle.words.proofs.Cases.{by_order}
 use Rattle.words.proofs.Le.{le_bytes, length-bytes}
-use Rattle.refusal.specs.Outcome.{Outcome, ok, err, then, many_at}
+use Rattle.refusal.specs.Outcome.{Outcome, ok, many_at}
 use Rattle.encoding.specs.Wire.{inside, slice_at, bytes_at, fixed_at, compact_at, canonical, compact, compact_size, most, compact_most, bounded_at, varbytes_at, varbytes}
 use Rattle.encoding.specs.Joined.{joined}
-use Rattle.encoding.proofs.Compact.{form1, form3, form5, form9, length-compact, compact-size-most}
+use Rattle.encoding.proofs.Compact.{form1, form3, form5, form9, length-compact}
 use Rattle.encoding.proofs.Slice as slice
 
 -- at at stands bs, and then rest

@@ -2,7 +2,7 @@
 use mathlib.Core.Path.{◌≡◌, refl, ap, sym, ◌∙◌}
 use Prim.Native.Nat.{ℕ, zero, suc, ◌+◌, ◌^◌, ◌≤◌, ◌<◌}
 use native.Mathlib.Omega.{arith}
-use mathlib.Core.List.{List, [], ◌∷◌, ◌++◌, map, append_assoc}
+use mathlib.Core.List.{List, [], ◌++◌, map, append_assoc}
 use mathlib.Core.Bool.{Bool, true, false}
 use lib.ListN.{length, take, drop, take-append-drop, length-take, length-drop}
 use lib.Seq.{drop-drop}
@@ -11,7 +11,7 @@ use borrow.Author.Tests.{ltb-true, ltb-false, eqb-true, eqb-false}
 use Rattle.words.specs.Words.{le, bytes, Bytes}
 use Rattle.words.specs.Buffers.{pick}
 use Rattle.words.proofs.Le.{bytes_le, part_bytes}
-use Rattle.refusal.specs.Outcome.{Outcome, ok, err, then, many_at}
+use Rattle.refusal.specs.Outcome.{Outcome, ok, then, many_at}
 use Rattle.refusal.proofs.Outcomes.{then_ok, passed}
 use Rattle.refusal.proofs.Many.{many-next}
 use Rattle.encoding.specs.Wire.{slice_at, bytes_at, fixed_at, compact_at, canonical, compact, most, compact_most}

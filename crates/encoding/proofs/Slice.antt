@@ -1,5 +1,5 @@
 -- The cases of `slice_at`, each as an equation under the facts that lead to it.
-use mathlib.Core.Path.{◌≡◌, ap, sym, ◌∙◌}
+use mathlib.Core.Path.{◌≡◌, ap, sym}
 use Prim.Native.Nat.{ℕ, ◌+◌, ◌-◌, ◌^◌, ◌≤◌, ◌<◌}
 use native.Mathlib.Omega.{arith}
 use mathlib.Core.List.{List, [], ◌∷◌}
@@ -7,7 +7,7 @@ use lib.ListN.{length}
 use borrow.Author.Tests.{le-ltb, lt-ltb}
 use Rattle.words.proofs.Cases.{by_order}
 use Rattle.refusal.proofs.Outcomes.{never}
-use Rattle.refusal.specs.Outcome.{Outcome, ok, err}
+use Rattle.refusal.specs.Outcome.{ok, err}
 use Rattle.encoding.specs.Wire.{slice_at}
 
 module _ (n : ℕ) (s : List ℕ) (at : ℕ) where

@@ -1,5 +1,5 @@
 -- What each answer says, in the document's numbers.
-use Rattle.std.specs.Prelude.{ℕ, List, [], ◌∷◌, replicate}
+use Rattle.std.specs.Prelude.{ℕ, List, replicate}
 use Rattle.refusal.specs.Outcome.{Outcome, ok, err, Wrote, wrote, refused}
 use Rattle.refusal.specs.Paper.{number_of, carried, stop_paper}
 use Rattle.encoding.specs.declared.read.ReadSpan.{ReadSpan}

@@ -34,8 +34,8 @@ held tx coins {inputs} {outputs} e =
       few = omega (arith, inputs_end tx t, outputs-end tx t);
       long = (omega arith, omega arith);
       inputs_read = t.inputs;
-      outputs-read = outputs-at tx t;
-      coins-read = k.coins;
+      outputs_read = outputs-at tx t;
+      coins_read = k.coins;
     }
 
 module _ (tx coins : List ℕ) where
@@ -93,8 +93,8 @@ module _ (tx coins : List ℕ) (inputs outputs n : ℕ) (s : Sheets tx coins inp
   coins-long : length (coins_in coins n) ≡ n
   coins-long =
       length-map (list_of (many_at (coin_at 1 coins) n 4)) (coin_of coins)
-      ∙ ap (λ (o : Outcome (List (Outpoint × Place))). length (list_of o)) s.coins-read
-      ∙ many-long (coin_at 1 coins) n 4 s.coins-read
+      ∙ ap (λ (o : Outcome (List (Outpoint × Place))). length (list_of o)) s.coins_read
+      ∙ many-long (coin_at 1 coins) n 4 s.coins_read
 
   pub is-coinbase : coinbase (inputs_in tx inputs) ≡ true → broken 10 [] ≡ Links
   unfolding links_of

@@ -17,15 +17,15 @@ unfolding le same many_at inside slice_at fixed_at canonical compact_at most com
 samples =
     record {
       empty = refl;
-      unpaired-reveal = refl;
-      unpaired-claim = refl;
-      unequal-values = refl;
-      equal-values = refl;
-      other-outpoint = refl;
-      null-input = refl;
-      no-coin = refl;
-      other-side = refl;
-      outputs-on-coins = refl;
-      no-file = refl;
-      byte-over = refl;
+      unpaired_reveal = refl;
+      unpaired_claim = refl;
+      unequal_values = refl;
+      equal_values = refl;
+      other_outpoint = refl;
+      null_input = refl;
+      no_coin = refl;
+      other_side = refl;
+      outputs_on_coins = refl;
+      no_file = refl;
+      byte_over = refl;
     }

@@ -130,9 +130,9 @@ begin tx coins n outputs s =
       cs = s.cs;
       ends = s.ends;
       inputs = rw z s.inputs_read;
-      outputs-left = rw y s.outputs-read;
-      coins-left = rw z s.coins-read;
-      rests = rw (s.inputs_read, s.outputs-read, s.coins-read);
+      outputs-left = rw y s.outputs_read;
+      coins-left = rw z s.coins_read;
+      rests = rw (s.inputs_read, s.outputs_read, s.coins_read);
     }
 
 module _ (tx coins : List ℕ) (n outputs : ℕ) {i outs names a b p : ℕ} {whole : Verdict} (r : Walking tx coins n outputs i outs names a b p whole) where

@@ -22,19 +22,19 @@ pub record Samples : Type 0 where
   -- "`10 00 00 00` and `14 00 00 00` give exactly `links inputs=0 linked=0 names=0`"
   pub empty : verify_of (0x10 ∷ 0 ∷ 0 ∷ 0 ∷ []) no_coins ≡ without_outpoints (summary 0 0 0)
   -- "For `10 00 00 40`, ten zero bytes, `04 00`, with the same coins: `refused 26 at 0`"
-  pub unpaired-reveal : verify_of (0x10 ∷ 0 ∷ 0 ∷ 0x40 ∷ (zeros 10 ++ (4 ∷ 0 ∷ []))) no_coins ≡ without_outpoints (stopped 26 (0 ∷ 4 ∷ []) 0)
+  pub unpaired_reveal : verify_of (0x10 ∷ 0 ∷ 0 ∷ 0x40 ∷ (zeros 10 ++ (4 ∷ 0 ∷ []))) no_coins ≡ without_outpoints (stopped 26 (0 ∷ 4 ∷ []) 0)
   -- ".. Claim passes"
-  pub unpaired-claim : verify_of (0x10 ∷ 0 ∷ 0 ∷ 0x40 ∷ (zeros 10 ++ (1 ∷ 0 ∷ []))) no_coins ≡ without_outpoints (summary 0 0 0)
+  pub unpaired_claim : verify_of (0x10 ∷ 0 ∷ 0 ∷ 0x40 ∷ (zeros 10 ++ (1 ∷ 0 ∷ []))) no_coins ≡ without_outpoints (summary 0 0 0)
   -- "Register to Open with unequal values: 22, with equal value and address: 14"
-  pub unequal-values : verify_of (opens (zeros 36) 1) (registered (zeros 36)) ≡ without_outpoints (stopped 22 (0 ∷ []) 0)
-  pub equal-values : verify_of (opens (zeros 36) 0) (registered (zeros 36)) ≡ without_outpoints (stopped 14 (0 ∷ 6 ∷ 2 ∷ []) 0)
+  pub unequal_values : verify_of (opens (zeros 36) 1) (registered (zeros 36)) ≡ without_outpoints (stopped 22 (0 ∷ []) 0)
+  pub equal_values : verify_of (opens (zeros 36) 0) (registered (zeros 36)) ≡ without_outpoints (stopped 14 (0 ∷ 6 ∷ 2 ∷ []) 0)
   -- "First the outpoint (12)", with both outpoints
-  pub other-outpoint : verify_of (opens (zeros 36) 0) (registered (7 ∷ zeros 35)) ≡ record { said = stopped 12 (0 ∷ []) 0; expected = outpoint (zeros 32) 0; actual = outpoint (7 ∷ zeros 31) 0 }
+  pub other_outpoint : verify_of (opens (zeros 36) 0) (registered (7 ∷ zeros 35)) ≡ record { said = stopped 12 (0 ∷ []) 0; expected = outpoint (zeros 32) 0; actual = outpoint (7 ∷ zeros 31) 0 }
   -- "Coinbase (first input null): 10. Counts: 11"
-  pub null-input : verify_of (opens (zeros 32 ++ (255 ∷ 255 ∷ 255 ∷ 255 ∷ [])) 0) no_coins ≡ without_outpoints (stopped 10 [] 0)
-  pub no-coin : verify_of (opens (zeros 36) 0) no_coins ≡ without_outpoints (stopped 11 (1 ∷ 0 ∷ []) 0)
+  pub null_input : verify_of (opens (zeros 32 ++ (255 ∷ 255 ∷ 255 ∷ 255 ∷ [])) 0) no_coins ≡ without_outpoints (stopped 10 [] 0)
+  pub no_coin : verify_of (opens (zeros 36) 0) no_coins ≡ without_outpoints (stopped 11 (1 ∷ 0 ∷ []) 0)
   -- a sheet of the other side; outputs on a coin sheet; a missing file; a byte that is left over
-  pub other-side : verify_of no_coins [] ≡ without_outpoints (stopped 27 (0 ∷ 0 ∷ []) 0)
-  pub outputs-on-coins : verify_of (0x10 ∷ 0 ∷ 0 ∷ 0 ∷ []) (0x14 ∷ 0 ∷ 0 ∷ 0x40 ∷ []) ≡ without_outpoints (stopped 27 (1 ∷ 2 ∷ []) 1)
-  pub no-file : verify_of (0x10 ∷ 0 ∷ 0 ∷ 0 ∷ []) [] ≡ without_outpoints (stopped 1 (0 ∷ 4 ∷ []) 1)
-  pub byte-over : verify_of (0x10 ∷ 0 ∷ 0 ∷ 0 ∷ 9 ∷ []) [] ≡ without_outpoints (stopped 3 (1 ∷ []) 0)
+  pub other_side : verify_of no_coins [] ≡ without_outpoints (stopped 27 (0 ∷ 0 ∷ []) 0)
+  pub outputs_on_coins : verify_of (0x10 ∷ 0 ∷ 0 ∷ 0 ∷ []) (0x14 ∷ 0 ∷ 0 ∷ 0x40 ∷ []) ≡ without_outpoints (stopped 27 (1 ∷ 2 ∷ []) 1)
+  pub no_file : verify_of (0x10 ∷ 0 ∷ 0 ∷ 0 ∷ []) [] ≡ without_outpoints (stopped 1 (0 ∷ 4 ∷ []) 1)
+  pub byte_over : verify_of (0x10 ∷ 0 ∷ 0 ∷ 0 ∷ 9 ∷ []) [] ≡ without_outpoints (stopped 3 (1 ∷ []) 0)

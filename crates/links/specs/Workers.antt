@@ -74,8 +74,8 @@ pub record Sheets (tx coins : List ℕ) (inputs outputs n : ℕ) : Type 0 where
   pub few : 4 + inputs * 36 + outputs < 2 ^ 32
   pub long : (length tx < 2 ^ 64) × (length coins < 2 ^ 64)
   pub inputs_read : many_at (input_at tx) inputs 4 ≡ ok ins ends.0
-  pub outputs-read : many_at (place_at 0 tx) outputs (4 + inputs * 36) ≡ ok outs ends.1
-  pub coins-read : many_at (coin_at 1 coins) n 4 ≡ ok cs ends.2
+  pub outputs_read : many_at (place_at 0 tx) outputs (4 + inputs * 36) ≡ ok outs ends.1
+  pub coins_read : many_at (coin_at 1 coins) n 4 ≡ ok cs ends.2
 
 -- ---- one input, at its positions
 

@@ -1,10 +1,9 @@
 -- The theorems of specs/Theorems.antt.
-use mathlib.Core.Path.{◌≡◌, refl, ap, ap₂, sym, ◌∙◌}
-use Prim.Native.Nat.{ℕ, ◌+◌, ◌^◌, ◌≤◌, ◌<◌}
+use mathlib.Core.Path.{◌≡◌, refl, ap, ap₂}
+use Prim.Native.Nat.{ℕ, ◌+◌}
 use native.Mathlib.Omega.{arith}
-use mathlib.Core.Bool.{Bool, true, false, ◌&&◌}
 use mathlib.Core.List.{List, ◌++◌}
-use lib.ListN.{length, drop, length-append}
+use lib.ListN.{length, length-append}
 use lib.Dec.{eqb}
 use borrow.Author.Tests.{eqb-true, eq-eqb}
 use Rattle.words.specs.Words.{bytes}
@@ -12,10 +11,9 @@ use Rattle.words.specs.Sameness.{same}
 use Rattle.words.proofs.Le.{length-bytes}
 use Rattle.words.proofs.Sameness.{same_true, same_refl, and-true}
 use Rattle.refusal.specs.Outcome.{ok}
-use Rattle.encoding.proofs.Back.{Stands, stands_here, stands-both, stands-next, stands-long, bytes_back, fixed_back}
+use Rattle.encoding.proofs.Back.{stands_here, stands-both, stands-next, stands-long, bytes_back, fixed_back}
 use Rattle.primitives.specs.Outpoints.{outpoint, same_outpoint, outpoint_bytes, outpoint_at}
-use Rattle.primitives.specs.Theorems.{Sized, OutpointReadsBack, SameIsEqual}
-use Rattle.primitives.specs.declared.Outpoint.{Outpoint}
+use Rattle.primitives.specs.Theorems.{OutpointReadsBack, SameIsEqual}
 
 pub outpoint-reads-back : OutpointReadsBack
 unfolding outpoint_bytes outpoint_at

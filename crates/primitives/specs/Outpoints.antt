@@ -1,5 +1,5 @@
 -- Outpoints (document 01, module 3).
-use Rattle.std.specs.Prelude.{ℕ, List, [], ◌∷◌, ◌++◌, Bool, true, false, ◌&&◌, replicate, eqb}
+use Rattle.std.specs.Prelude.{ℕ, List, ◌++◌, Bool, ◌&&◌, replicate, eqb}
 use Rattle.words.specs.Words.{bytes}
 use Rattle.words.specs.Sameness.{same}
 use Rattle.refusal.specs.Outcome.{Outcome, ok, err, then}

@@ -1,6 +1,6 @@
 -- Sums and differences of amounts, as the Rust's `checked_add` and `checked_sub` have them (document 01, module 3:
 -- "Source decides on behaviour").
-use Rattle.std.specs.Prelude.{ℕ, ◌+◌, ◌-◌, ◌^◌, ltb}
+use Rattle.std.specs.Prelude.{◌+◌, ◌-◌, ◌^◌, ltb}
 use Rattle.words.specs.Buffers.{pick}
 use Rattle.primitives.specs.declared.Dollarydoos.{Dollarydoos}
 use Rattle.primitives.specs.declared.Checked.{Checked}

@@ -14,7 +14,7 @@ use Rattle.refusal.proofs.Outcomes.{then-assoc}
 use Rattle.refusal.proofs.Many.{many-next, many-none}
 use Rattle.covenants.specs.Covenant.{Reading, item_at, head_at, covenant_at, bytes_in, contents}
 use Rattle.covenants.specs.Items.{found, counted, nth, seek_at}
-use Rattle.covenants.proofs.Moves.{item-read, covenant-accepted}
+use Rattle.covenants.proofs.Moves.{item-read, covenant_accepted}
 use Rattle.covenants.proofs.Parts.{nth-there, nth-absent, nth-long, nth-short}
 use Rattle.sheets.specs.Sheet.{upon, seen_at, parts_from, items_from}
 use Rattle.sheets.specs.Theorems.{ItemsAreRead}
@@ -73,7 +73,7 @@ module _ (read : ℕ → Outcome (ℕ × ℕ)) where
 pub parts_are : (s : List ℕ) (at : ℕ) {c : Reading} {end : ℕ} → covenant_at 1000009 s at ≡ ok c end → parts_from s at ≡ c.items
 unfolding parts_from
 parts_are s at {c} e =
-    let a = covenant-accepted 1000009 s at e in
+    let a = covenant_accepted 1000009 s at e in
     rw a.head (seen_all (item_at 1000009 at s) (length c.items) a.first a.items)
 
 pub items-are-read : ItemsAreRead

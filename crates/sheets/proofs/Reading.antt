@@ -153,9 +153,9 @@ input-moves s at {o} {next} big e =
     let end : w.1 ≡ next = cc in
     (omega (arith, part.ends), omega (arith, part.ends, part.fits))
 
-pub coins-read : (version : ℕ) (s : List ℕ) (n from : ℕ) {cs : List (Outpoint × Place)} {end : ℕ} → length s < 2 ^ 64 → many_at (coin_at version s) n from ≡ ok cs end → {c : Outpoint × Place} → Memᴰ c cs
+pub coins_read : (version : ℕ) (s : List ℕ) (n from : ℕ) {cs : List (Outpoint × Place)} {end : ℕ} → length s < 2 ^ 64 → many_at (coin_at version s) n from ≡ ok cs end → {c : Outpoint × Place} → Memᴰ c cs
     → (at : ℕ) × (next : ℕ) × Placed s at c.1 next
-coins-read version s n from big e m =
+coins_read version s n from big e m =
     let w = many-somewhere (coin_at version s) n from e m in
     let c = coin-read version s w.0 w.2 in
     (c.middle + gap version, w.1, place_read s big 1 (c.middle + gap version) c.output)

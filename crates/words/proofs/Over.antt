@@ -1,16 +1,16 @@
 -- Bytes laid over bytes: as runs of stores, one after the other, and where there is room or none.
 use mathlib.Core.Path.{◌≡◌, refl, ap, sym, ◌∙◌}
-use Prim.Native.Nat.{ℕ, zero, suc, ◌+◌, ◌-◌, ◌*◌, ◌/◌, ◌%◌, ◌^◌, ◌≤◌, ◌<◌}
+use Prim.Native.Nat.{ℕ, suc, ◌+◌, ◌/◌, ◌%◌, ◌≤◌, ◌<◌}
 use native.Mathlib.Omega.{arith}
 use native.Mathlib.Nat.{add-zero}
 use native.Mathlib.Numerals.{add-one}
 use mathlib.Core.List.{List, [], ◌∷◌, ◌++◌, append-nil}
-use mathlib.Core.Bool.{Bool, true, false}
-use lib.ListN.{length, take, drop, get_or, set, length-set, length-append, drop_of_length-le, replicate, length-replicate, replicate-append-replicate}
+use mathlib.Core.Bool.{true, false}
+use lib.ListN.{length, drop, get_or, set, length-set, length-append, drop_of_length-le, replicate, length-replicate, replicate-append-replicate}
 use lib.Seq.{sets, sets-eq, length-sets, drop-cons, drop_at}
 use borrow.Author.Tests.{le-leb, lt-leb}
 use Rattle.words.specs.Words.{bytes}
-use Rattle.words.specs.Buffers.{over, fits, laid, pick}
+use Rattle.words.specs.Buffers.{over, fits, laid}
 
 pub over-sets : (at : ℕ) (bs d : List ℕ) → at + length bs ≤ length d → sets d at bs ≡ over at bs d
 unfolding over

@@ -1,12 +1,12 @@
 -- Lists of bytes that are the same, byte by byte.
 use mathlib.Core.Path.{◌≡◌, refl, ap, ap₂, sym, ◌∙◌}
-use Prim.Native.Nat.{ℕ, zero, suc, ◌+◌, ◌≤◌, ◌<◌}
+use Prim.Native.Nat.{ℕ, suc, ◌+◌, ◌≤◌, ◌<◌}
 use native.Mathlib.Omega.{arith}
 use native.Mathlib.Numerals.{add-one}
 use mathlib.Core.List.{List, [], ◌∷◌, ◌++◌}
 use mathlib.Core.Bool.{Bool, true, false, ◌&&◌}
 use lib.ListN.{length, take, drop, get_or, take-append-drop}
-use lib.Seq.{drop-cons, drop-length, drop-nil, drop-drop}
+use lib.Seq.{drop-cons, drop-length, drop-drop}
 use lib.Dec.{eqb}
 use borrow.Author.Tests.{eq-eqb, ne_eqb, eqb-true}
 use Rattle.words.specs.Words.{le, Bytes}

@@ -1,4 +1,4 @@
-use Rattle.std.proofs.Common.{◌-◌, refl, ap, ◌∙◌, arith}
+use Rattle.std.proofs.Common.{refl, ap, ◌∙◌, arith}
 use Rattle.blake2b.specs.Blake2b.{chain, digest, blake2b}
 use Rattle.blake2b.proofs.Blocks.{chain_more, chain-last}
 use Rattle.blake2b.proofs.blake2b_256.Goals as goal

@@ -1,6 +1,5 @@
 use native.Mathlib.Omega.{arith}
 use mathlib.Core.Path.{sym}
-use Prim.Native.Nat.{◌-◌}
 use Rattle.encoding.specs.Paper.{span_paper}
 use Rattle.refusal.proofs.Outcomes.{told}
 use Rattle.refusal.proofs.Many.{begin, more, stopped, ended}

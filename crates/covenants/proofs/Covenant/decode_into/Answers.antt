@@ -7,7 +7,7 @@ use Rattle.covenants.proofs.Directory.{found, refused, tells-same, tells-refused
 use Rattle.covenants.proofs.Covenant.decode_into.Goals as goal
 
 pub returns-then-s-gt-MAX_ENCODED_SIZE : goal.returns-then-s-gt-MAX_ENCODED_SIZE
-returns-then-s-gt-MAX_ENCODED_SIZE c = 
+returns-then-s-gt-MAX_ENCODED_SIZE c =
     let made = tells-refused (whole_long _ c.if-s-gt-MAX_ENCODED_SIZE.true) c.clear.ensures in
     record { result_value = rw (c.too_large.ensures.0, c.too_large.ensures.1) made.0; starts_after = made.1.0; lens_after = made.1.1 }
 

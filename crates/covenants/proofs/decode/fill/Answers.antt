@@ -1,5 +1,4 @@
 use native.Mathlib.Omega.{arith}
-use Prim.Native.Nat.{◌-◌}
 use Rattle.encoding.specs.Paper.{span_paper}
 use Rattle.refusal.proofs.Outcomes.{told}
 use Rattle.covenants.proofs.Moves.{item-read}

@@ -1,5 +1,5 @@
 use native.Mathlib.Omega.{arith}
-use Prim.Native.Nat.{◌-◌, ◌≤◌}
+use Prim.Native.Nat.{◌≤◌}
 use borrow.Author.Tests.{not-false}
 use Rattle.covenants.proofs.Directory.{more}
 use Rattle.covenants.proofs.OneByte.{short-item}

@@ -1,6 +1,5 @@
 use native.Mathlib.Omega.{arith}
 use mathlib.Core.Path.{refl, sym, ◌∙◌}
-use Prim.Native.Nat.{◌-◌}
 use borrow.Author.Tests.{not-false}
 use Rattle.refusal.proofs.Many.{past_first}
 use Rattle.covenants.proofs.OneByte.{short-item}

@@ -1,5 +1,4 @@
 use native.Mathlib.Omega.{arith}
-use Prim.Native.Nat.{◌-◌}
 use Rattle.covenants.proofs.Laying.{begin, next-held, next_fits, more, ended}
 use Rattle.covenants.proofs.write.put_items.Goals as goal
 

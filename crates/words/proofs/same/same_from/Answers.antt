@@ -1,6 +1,5 @@
 use native.Mathlib.Omega.{arith}
 use mathlib.Core.Path.{refl, sym, ◌∙◌}
-use Prim.Native.Nat.{◌-◌}
 use Rattle.words.proofs.Sameness.{same_next, same_stop, same_end}
 use Rattle.words.proofs.same.same_from.Goals as goal
 

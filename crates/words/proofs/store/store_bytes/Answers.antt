@@ -1,6 +1,6 @@
 use native.Mathlib.Omega.{arith}
 use mathlib.Core.Path.{◌≡◌, refl, sym, ◌∙◌}
-use Prim.Native.Nat.{◌+◌, ◌-◌}
+use Prim.Native.Nat.{◌+◌}
 use mathlib.Core.List.{[]}
 use lib.ListN.{drop, length-set, drop_of_length-le}
 use Rattle.words.proofs.Over.{over-sets, copy_more}
