@@ -1,23 +1,23 @@
 // The name report: what `state.bin` says, in one line.
+#![tactic(auto)]
+
 use encoding::put::Put;
 use files::load;
-use libc::STDOUT_FILENO;
 use reports::name::name_line;
+use std::io;
 
-fn report(file: &[u8]) {
+fn report(rt: &impl Print, file: &[u8]) -> io::Result<()> {
     let mut line = [0u8; 64];
     match name_line(file, &mut line) {
-        Put::Written(m) => {
-            io::write_all(STDOUT_FILENO, &line[..m]);
-        }
+        Put::Written(m) => rt.write_all(&line[..m]),
         // Never: every line fits (NameLineFits of reports).
-        Put::Refused(_) => {}
+        Put::Refused(_) => Ok(()),
     }
 }
 
 // One byte more than a key and the longest record is read, so that a longer file is refused for its length.
-fn main() {
+fn main(rt: HostRuntime) -> io::Result<()> {
     let mut file = [0u8; 701];
-    let n = load(b"state.bin", &mut file);
-    report(&file[..n]);
+    let n = load(&rt, b"state.bin", &mut file);
+    report(&rt, &file[..n])
 }

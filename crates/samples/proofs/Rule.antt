@@ -1,13 +1,13 @@
 -- The message that the rule makes, and the parts of a vector.
 use mathlib.Core.Path.{◌≡◌, refl, ap, ◌∙◌}
-use mathlib.Core.Bool.{Bool, true, false}
+use mathlib.Core.Bool.{true}
 use mathlib.Core.List.{List, ◌++◌}
 use Prim.Native.Nat.{ℕ, zero, suc, ◌+◌, ◌-◌, ◌*◌, ◌%◌, ◌≤◌}
 use native.Mathlib.Omega.{arith}
 use lib.ListN.{length, take, drop, set, replicate, take-append-drop, length-take, length-drop}
 use lib.Seq.{sets, take_all, take_at}
 use Rattle.words.specs.Words.{le, bytes, Bytes}
-use Rattle.words.specs.Buffers.{over, laid, pick}
+use Rattle.words.specs.Buffers.{over, laid}
 use Rattle.words.specs.Sameness.{same}
 use Rattle.words.proofs.Cases.{pick_small}
 use Rattle.words.proofs.Le.{bytes_le, part_bytes}

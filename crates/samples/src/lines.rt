@@ -12,33 +12,33 @@ use covenants::write::encode;
 use covenants::{Covenant, ReadCovenant};
 use encoding::put::Put;
 use encoding::read::{Cursor, Moved};
-use libc::STDOUT_FILENO;
 use links::{Links, verify_covenant_links};
 use name_state_codec::decode::decode;
 use primitives::NameHash;
 use refusal::{Refusal, carried_by, number};
+use std::io;
 use words::same::same_bytes;
 
-fn tell(text: &[u8]) {
-    io::write_all(STDOUT_FILENO, text);
+fn tell(rt: &impl Print, text: &[u8]) -> io::Result<()> {
+    rt.write_all(text)
 }
 
 // A refusal that carries two numbers.
-fn tell_refused(r: Refusal, after: &[u8]) {
+fn tell_refused(rt: &impl Print, r: Refusal, after: &[u8]) -> io::Result<()> {
     let carried = carried_by(r);
-    say(b"", b"refused ", number(r) as u64, b" with ");
-    say(b"", b"", carried.first as u64, b" and ");
-    say(b"", b"", carried.second as u64, after);
+    say(rt, b"", b"refused ", number(r) as u64, b" with ")?;
+    say(rt, b"", b"", carried.first as u64, b" and ")?;
+    say(rt, b"", b"", carried.second as u64, after)
 }
 
-fn tell_written(written: Put) {
+fn tell_written(rt: &impl Print, written: Put) -> io::Result<()> {
     match written {
-        Put::Written(n) => say(b"", b"", n as u64, b" written, "),
-        Put::Refused(r) => tell_refused(r, b" when written, "),
+        Put::Written(n) => say(rt, b"", b"", n as u64, b" written, "),
+        Put::Refused(r) => tell_refused(rt, r, b" when written, "),
     }
 }
 
-fn tell_read(read: ReadCovenant) {
+fn tell_read(rt: &impl Print, read: ReadCovenant) -> io::Result<()> {
     match read {
         ReadCovenant::Accepted {
             kind: _,
@@ -46,22 +46,21 @@ fn tell_read(read: ReadCovenant) {
             used,
             next: _,
         } => {
-            say(b"", b"", used as u64, b" read with ");
-            say(b"", b"", count as u64, b" items");
+            say(rt, b"", b"", used as u64, b" read with ")?;
+            say(rt, b"", b"", count as u64, b" items")
         }
         ReadCovenant::Refused(stop) => {
             let refusal = stop.refusal;
-            tell_refused(refusal, b" when read");
+            tell_refused(rt, refusal, b" when read")
         }
     }
 }
 
-fn tell_kept(kept: bool) {
+fn tell_kept(rt: &impl Print, kept: bool) -> io::Result<()> {
     if kept {
-        tell(b", the first as it was\n");
-        return;
+        return tell(rt, b", the first as it was\n");
     }
-    tell(b", the first not as it was\n");
+    tell(rt, b", the first not as it was\n")
 }
 
 // A covenant of so many items: the first is 1,000,000 bytes of the source, and the others are empty.
@@ -86,31 +85,35 @@ fn is_kept(dest: &[u8], start: usize, source: &[u8]) -> bool
 
 // "Three items of 1,000,000, 0, 0 fill 1,000,009". The first stands after the kind, the count and a length of five
 // bytes.
-fn run_three(dest: &mut [u8; 1000010], source: &[u8; 1000000]) {
+fn run_three(rt: &impl Print, dest: &mut [u8; 1000010], source: &[u8; 1000000]) -> io::Result<()> {
     let first = Cursor { position: 0 };
-    tell(b"three items of 1000000, 0 and 0: ");
-    tell_written(write_items(dest, source, 3));
-    tell_read(Covenant::read(first, dest, Covenant::MAX_ENCODED_SIZE));
-    tell_kept(is_kept(dest, 7, source));
+    tell(rt, b"three items of 1000000, 0 and 0: ")?;
+    tell_written(rt, write_items(dest, source, 3))?;
+    tell_read(rt, Covenant::read(first, dest, Covenant::MAX_ENCODED_SIZE))?;
+    tell_kept(rt, is_kept(dest, 7, source))
 }
 
 // "a fourth empty item is 5": to the writer, and to the reader of the three items under the count 4, with one zero byte
 // more.
-fn run_four(dest: &mut [u8; 1000010], source: &[u8; 1000000]) {
+fn run_four(rt: &impl Print, dest: &mut [u8; 1000010], source: &[u8; 1000000]) -> io::Result<()> {
     let first = Cursor { position: 0 };
-    tell(b"a fourth empty item: ");
-    tell_written(write_items(dest, source, 4));
+    tell(rt, b"a fourth empty item: ")?;
+    tell_written(rt, write_items(dest, source, 4))?;
     dest[1] = 4;
     dest[1_000_009] = 0;
-    tell_read(Covenant::read(first, dest, Covenant::MAX_ENCODED_SIZE));
-    tell(b"\n");
+    tell_read(rt, Covenant::read(first, dest, Covenant::MAX_ENCODED_SIZE))?;
+    tell(rt, b"\n")
 }
 
 // Arrays and not slices are lent: their type says their length, and no check builds a list of a million numbers.
-fn run_items(dest: &mut [u8; 1000010], source: &mut [u8; 1000000]) {
+fn run_items(
+    rt: &impl Print,
+    dest: &mut [u8; 1000010],
+    source: &mut [u8; 1000000],
+) -> io::Result<()> {
     make(source, 1_000_000);
-    run_three(dest, source);
-    run_four(dest, source);
+    run_three(rt, dest, source)?;
+    run_four(rt, dest, source)
 }
 
 // A name state's record.
@@ -122,23 +125,23 @@ fn height_one() -> [u8; 13]
     record
 }
 
-fn tell_state(read: Moved) {
+fn tell_state(rt: &impl Print, read: Moved) -> io::Result<()> {
     match read {
-        Moved::To(_) => tell(b"accepted\n"),
+        Moved::To(_) => tell(rt, b"accepted\n"),
         Moved::Refused(stop) => {
             let refusal = stop.refusal;
-            say(b"", b"refused ", number(refusal) as u64, b"\n");
+            say(rt, b"", b"refused ", number(refusal) as u64, b"\n")
         }
     }
 }
 
 // "Height 1 with an empty name: 6".
-fn run_height() {
+fn run_height(rt: &impl Print) -> io::Result<()> {
     let record = height_one();
     let decoded = decode(NameHash([0u8; 32]), &record);
     let read = decoded.read;
-    tell(b"height 1 with an empty name: ");
-    tell_state(read);
+    tell(rt, b"height 1 with an empty name: ")?;
+    tell_state(rt, read)
 }
 
 // A sheet of one coin: a Register of value 0 with no address hash and no items.
@@ -166,36 +169,36 @@ fn open_transaction(value: u8) -> [u8; 52]
 }
 
 // The number, and the input that it carries.
-fn tell_broken(name: &[u8], refusal: Refusal) {
+fn tell_broken(rt: &impl Print, name: &[u8], refusal: Refusal) -> io::Result<()> {
     let carried = carried_by(refusal);
-    say(name, b": refused ", number(refusal) as u64, b" at ");
-    say(b"", b"", carried.first as u64, b"\n");
+    say(rt, name, b": refused ", number(refusal) as u64, b" at ")?;
+    say(rt, b"", b"", carried.first as u64, b"\n")
 }
 
-fn tell_links(name: &[u8], links: Links) {
+fn tell_links(rt: &impl Print, name: &[u8], links: Links) -> io::Result<()> {
     match links {
         Links::Linked(_) => {
-            tell(name);
-            tell(b": accepted\n");
+            tell(rt, name)?;
+            tell(rt, b": accepted\n")
         }
-        Links::Refused { refusal, side: _ } => tell_broken(name, refusal),
+        Links::Refused { refusal, side: _ } => tell_broken(rt, name, refusal),
     }
 }
 
 // "Register to Open with unequal values: 22, with equal value and address: 14".
-fn run_links(name: &[u8], value: u8) {
+fn run_links(rt: &impl Print, name: &[u8], value: u8) -> io::Result<()> {
     let tx = open_transaction(value);
     let coins = register_coins();
     let verified = verify_covenant_links(&tx, &coins);
     let links = verified.links;
-    tell_links(name, links);
+    tell_links(rt, name, links)
 }
 
-pub(crate) fn run_lines() {
+pub(crate) fn run_lines(rt: &impl Print) -> io::Result<()> {
     let mut dest = [0u8; 1000010];
     let mut source = [0u8; 1000000];
-    run_items(&mut dest, &mut source);
-    run_height();
-    run_links(b"register to open with unequal values", 1);
-    run_links(b"register to open with equal value and address", 0);
+    run_items(rt, &mut dest, &mut source)?;
+    run_height(rt)?;
+    run_links(rt, b"register to open with unequal values", 1)?;
+    run_links(rt, b"register to open with equal value and address", 0)
 }

@@ -3,8 +3,8 @@ ghost use Rattle.std.specs.Prelude.{◌≡◌};
 ghost use Rattle.samples.specs.Viewed.{viewed_transaction, viewed_coins};
 
 use crate::say;
-use libc::STDOUT_FILENO;
 use sheets::viewer::{has_item, item};
+use std::io;
 
 // A sheet of one input and one output: an Open with two items, `ab` and an empty one.
 fn transaction() -> [u8; 56]
@@ -38,38 +38,44 @@ fn coin() -> [u8; 57]
     coins
 }
 
-fn tell_whether(there: bool) {
+fn tell_whether(rt: &impl Print, there: bool) -> io::Result<()> {
     if there {
-        io::write_all(STDOUT_FILENO, b": yes, ");
-        return;
+        return rt.write_all(b": yes, ");
     }
-    io::write_all(STDOUT_FILENO, b": no, ");
+    rt.write_all(b": no, ")
 }
 
-fn tell_item<'a>(tx: &'a [u8], coins: &'a [u8], side: u8, index: usize, number: usize) {
+fn tell_item<'a>(
+    rt: &impl Print,
+    tx: &'a [u8],
+    coins: &'a [u8],
+    side: u8,
+    index: usize,
+    number: usize,
+) -> io::Result<()> {
     let part = item(tx, coins, side, index, number);
-    say(b"side ", b"", side as u64, b" record ");
-    say(b"", b"", index as u64, b" item ");
-    say(b"", b"", number as u64, b"");
-    tell_whether(has_item(tx, coins, side, index, number));
-    say(b"", b"", part.len() as u64, b" bytes (");
-    io::write_all(STDOUT_FILENO, part);
-    io::write_all(STDOUT_FILENO, b")\n");
+    say(rt, b"side ", b"", side as u64, b" record ")?;
+    say(rt, b"", b"", index as u64, b" item ")?;
+    say(rt, b"", b"", number as u64, b"")?;
+    tell_whether(rt, has_item(tx, coins, side, index, number))?;
+    say(rt, b"", b"", part.len() as u64, b" bytes (")?;
+    rt.write_all(part)?;
+    rt.write_all(b")\n")
 }
 
 // Both items of a side's record, and one that it does not have.
-fn run_side<'a>(tx: &'a [u8], coins: &'a [u8], side: u8) {
-    tell_item(tx, coins, side, 0, 0);
-    tell_item(tx, coins, side, 0, 1);
-    tell_item(tx, coins, side, 0, 2);
+fn run_side<'a>(rt: &impl Print, tx: &'a [u8], coins: &'a [u8], side: u8) -> io::Result<()> {
+    tell_item(rt, tx, coins, side, 0, 0)?;
+    tell_item(rt, tx, coins, side, 0, 1)?;
+    tell_item(rt, tx, coins, side, 0, 2)
 }
 
 // The two sides, another side, and a record that is not there.
-pub(crate) fn run_viewer() {
+pub(crate) fn run_viewer(rt: &impl Print) -> io::Result<()> {
     let tx = transaction();
     let coins = coin();
-    run_side(&tx, &coins, 0);
-    run_side(&tx, &coins, 1);
-    run_side(&tx, &coins, 2);
-    tell_item(&tx, &coins, 0, 1, 0);
+    run_side(rt, &tx, &coins, 0)?;
+    run_side(rt, &tx, &coins, 1)?;
+    run_side(rt, &tx, &coins, 2)?;
+    tell_item(rt, &tx, &coins, 0, 1, 0)
 }
