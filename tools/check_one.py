@@ -1,6 +1,6 @@
 """Checks that every public function of a library has its theorem that two results which meet its contract coincide:
-NAME-one in the crate's proofs/One.antt, underscores as hyphens, with the type or else the module in front where a crate
-has two of a name. A function that docs/EXCEPTIONS.md lists as left open needs none, and may have none.
+NAME-one in the crate's proofs/One.antt, hyphens and underscores alike, with the type or else the module in front where a
+crate has two of a name. A function that docs/EXCEPTIONS.md lists as left open needs none, and may have none.
 
 The theorem supposes the contract of two results. So each definition of specs/ and each number that the `ensures` cite
 must stand twice in the theorem's type, no other definition may stand there, and it has twice the equations of the
@@ -18,12 +18,14 @@ from check_surface import EXCEPTIONS, public_functions
 from repository import (
     BACKTICKED,
     GHOST_USE,
+    SEPARATORS,
     Findings,
     ensures_of,
     list_files,
     names_of,
     only_section,
     proof_code,
+    rattle_code,
     read,
     read_crates,
     report,
@@ -33,16 +35,23 @@ from repository import (
 )
 
 LEFT_OPEN_SECTION = "## Results that a contract leaves open"
-THEOREM = re.compile(r"^(?P<margin> *)pub (?P<name>[^\s:]+-one) :", re.MULTILINE)
+THEOREM = re.compile(r"^ *pub (?P<name>[^\s:]+[-_]one) :", re.MULTILINE)
 ABBREVIATION = re.compile(r"^ *abbrev (?P<name>[^\s:]+) :", re.MULTILINE)
 USE = re.compile(r"^use (?P<module>[^\s{]*)\.\{(?P<names>[^}]*)\}", re.MULTILINE)
+USE_AS = re.compile(r"^(?:ghost )?use (?P<module>[^\s{]*) as (?P<alias>[^\s;]+)", re.MULTILINE)
+# A file of a crate's specs/; what stands below `declared` are the types of the code.
+SPECIFICATION = re.compile(r"Rattle\.(?P<crate>\w+)\.specs\.(?!declared\.)")
+
+
+def hyphened(name):
+    return name.replace("_", "-")
 
 
 def theorem_of(name, shared):
     """The theorem's name for a function's full name, `crate::module::Type::function`."""
     crate, *owners, function = name.split("::")
     parts = [owners[-1].lower(), function] if shared and owners else [function]
-    return "-".join(parts).replace("_", "-") + "-one"
+    return hyphened("-".join(parts)) + "-one"
 
 
 def parts_of(code, start):
@@ -58,38 +67,50 @@ def parts_of(code, start):
 
 
 def theorems_of(code):
-    """What the types of a file's theorems cite, by their names; abbreviations of the file count as what they stand
-    for."""
-    meant = {}
+    """What the types of a file's theorems cite, by their names with hyphens; abbreviations of the file count as what
+    they stand for. Of two theorems that differ only in that the second counts for nothing."""
+    meant, modules = {}, modules_of(code)
     for match in ABBREVIATION.finditer(code):
         name = match["name"]
         body = re.search(rf"^ *{re.escape(name)} [^\n=]*=", code[match.end() :], re.MULTILINE)
-        meant[name] = words_of(parts_of(code, match.end() + body.end())) if body else Counter()
+        meant[name] = words_of(parts_of(code, match.end() + body.end()), modules) if body else Counter()
     theorems = {}
     for match in THEOREM.finditer(code):
-        cited = words_of(parts_of(code, match.end()))
+        cited = words_of(parts_of(code, match.end()), modules)
         for name, within in meant.items():
             for word, times in within.items():
                 cited[word] += times * cited[name]
-        theorems[match["name"]] = +cited
+        theorems.setdefault(hyphened(match["name"]), +cited)
     return theorems
 
 
-def brought_by(text, use):
-    """The definitions of specs/ that a file brings in; types that the code declares are no definitions."""
+def modules_of(code):
+    """The names under which a file brings in whole modules."""
+    return {match["alias"] for match in USE_AS.finditer(code)}
+
+
+def brought_by(code, use, crates):
+    """The definitions of the crates' specs/ that a file brings in, or cites behind a module's name; types that the code
+    declares are no definitions."""
+
+    def is_specification(match):
+        module = SPECIFICATION.match(match["module"] + ".")
+        return module and module["crate"] in crates
+
     brought = set()
-    for match in use.finditer(text):
-        if ".specs." in match["module"] and ".declared." not in match["module"]:
-            brought.update(names_of(match["names"]))
+    for match in filter(is_specification, use.finditer(code)):
+        brought.update(names_of(match["names"]))
+    for match in filter(is_specification, USE_AS.finditer(code)):
+        brought.update(re.findall(rf"(?<![^{SEPARATORS}])(?<!\.){re.escape(match['alias'])}\.([^{SEPARATORS}]+)", code))
     return brought
 
 
-def parted(text, one, function, cited):
+def parted(text, one, function, cited, crates):
     """In what a function's contract and its theorem, which cites so much, do not speak of the same."""
-    formulas = " ".join(ensures_of(text, function))
-    held = words_of(formulas)
-    contract = {word for word in held if word in brought_by(text, GHOST_USE) and word not in function.parameters}
-    theorem = {word for word in cited if word in brought_by(one, USE)}
+    code = rattle_code(text)
+    held = words_of(" ".join(ensures_of(code, function)), modules_of(code))
+    contract = {word for word in held if word in brought_by(code, GHOST_USE, crates)} - function.parameters
+    theorem = {word for word in cited if word in brought_by(proof_code(one), USE, crates)}
     numbers = {word for word in held if word.isdigit()}
     wrong = [f"the theorem lacks {word}" for word in sorted(contract | numbers) if cited[word] < 2]
     wrong += [f"the contract lacks {word}" for word in sorted(theorem - contract)]
@@ -125,7 +146,7 @@ def main(arguments):
             findings.add(EXCEPTIONS, 1, f"stale: {name} has its theorem {theorem}")
         elif stands:
             one = read(root / "crates" / crate / "proofs" / "One.antt")
-            for wrong in parted(read(root / path), one, function, theorems[crate][theorem]):
+            for wrong in parted(read(root / path), one, function, theorems[crate][theorem], crates):
                 findings.add(path, function.line, f"{name} and {theorem}: {wrong}")
     for name in sorted(left_open - {name for name, _, _ in functions}):
         findings.add(EXCEPTIONS, 1, f"stale: {name} is no public function of a library")

@@ -40,7 +40,9 @@ ASSUMED = re.compile(rf"(?<![^{SEPARATORS}])(?:axiom|postulate|\?[^{SEPARATORS}]
 POSITION = re.compile(r"[\w/]+\.rt:\d[\d:]*")
 
 # A file of specs/, as a `use` names it in its own crate and in others.
-SPECIFICATION = re.compile(r"\bRattle·(?P<crate>\w+)(?:·specs)?\.specs\.(?P<file>\w+)")
+SPECIFICATION = re.compile(r"\bRattle\.(?P<crate>\w+)\.specs\.(?P<file>\w+)")
+# Where the arguments stand in an operator's name.
+PLACE = "◌"
 WORKERS = "Workers.antt"
 
 
@@ -156,7 +158,7 @@ def check_workers(root, functions, workers, findings):
             if not used or specification_of(used) not in workers:
                 continue
             for word in names_of(match["names"]):
-                if cited.issuperset(filter(None, word.split("_"))):
+                if cited.issuperset(filter(None, word.split(PLACE))):
                     wrong = f"{name} cites {word} of {specification_of(used)}, which is or uses {WORKERS}"
                     findings.add(path, function.line, wrong)
 

@@ -90,20 +90,20 @@ LIMITS = {
     ),
 }
 SIDES = {
-    "SIDE_TRANSACTION": Said("crates/sheets/specs/Sheet.antt", r"\ntransactionAt s = sheetAt (\d+) s ", ""),
-    "SIDE_COINS": Said("crates/sheets/specs/Sheet.antt", r"\ncoinsAt s = sheetAt (\d+) s ", ""),
+    "SIDE_TRANSACTION": Said("crates/sheets/specs/Sheet.antt", r"\ntransaction_at s = sheet_at (\d+) s ", ""),
+    "SIDE_COINS": Said("crates/sheets/specs/Sheet.antt", r"\ncoins_at s = sheet_at (\d+) s ", ""),
 }
 AMOUNTS = {
     "OVERFLOW": Said(
-        "crates/capi/specs/Amounts.antt", r"\namountFlat Checked\.Overflow = record \{ outcome = (\d+);", ""
+        "crates/capi/specs/Amounts.antt", r"\namount_flat Checked\.Overflow = record \{ outcome = (\d+);", ""
     ),
     "UNDERFLOW": Said(
-        "crates/capi/specs/Amounts.antt", r"\namountFlat Checked\.Underflow = record \{ outcome = (\d+);", ""
+        "crates/capi/specs/Amounts.antt", r"\namount_flat Checked\.Underflow = record \{ outcome = (\d+);", ""
     ),
 }
 KINDS = "crates/covenants/src/kind.rt"
 CLASSES = "crates/name_state/specs/Paper.antt"
-CLASS = re.compile(r"^classNumber Class\.(\w+) = (\d+)$", re.MULTILINE)
+CLASS = re.compile(r"^class_number Class\.(\w+) = (\d+)$", re.MULTILINE)
 # The refusals that carry a choice of their rule: what the choice is called in the header, and the crate whose constants
 # it is.
 CHOICES = {"InvalidNameState": ("REASON", "name_state_codec"), "MalformedCovenant": ("FIELD", None)}
@@ -144,7 +144,8 @@ def constant(root, crate, owner, name):
     *place, name = value.split("::")
     if len(place) != 1:
         raise Wrong(path, f"{name} is said by {value}, which is not followed")
-    used = re.search(rf"\buse\s+(\w+)::(?:\w+::)*{place[0]}\s*;", code)
+    of_list = rf"\{{[^{{}};]*\b{place[0]}\b[^{{}};]*\}}"
+    used = re.search(rf"\buse\s+(?!crate\b)(\w+)::(?:\w+::)*(?:{place[0]}|{of_list})\s*;", code)
     if used:
         return constant(root, used[1], place[0], name)
     if (root / "crates" / place[0]).is_dir():

@@ -1,5 +1,5 @@
 """Asks the prover about wrong programs: changes one comparison, operator, constant or answer of a crate's code at a
-time, in a copy of the repository, and runs `rt dev` on it. Run by hand, not by the gate: a crate takes minutes.
+time, in a copy of the repository, and runs `rt check` on it. Run by hand, not by the gate: a crate takes minutes.
 
     python3 tools/mutate.py [--of-one N] [--function NAME].. [--list] CRATE [CRATE ..]
 
@@ -12,12 +12,19 @@ once, at most one in each function and none in two functions of which one reache
 its own verdict. A mutant that is accepted so is judged once more alone, and so is each change of a constant that stands
 outside the functions.
 
-For each mutant one line: `refused`, `no program` (the compiler refuses it before the prover is asked), `no verdict`
-(the prover gives up, or takes longer than its limit), or `ACCEPTED`, which is for a reader to judge: it is the same
-program, or a contract is too weak. The last line has the figures. Exit 1 where one was accepted or has no verdict.
+A goal is named after the code that it comes from, as `returns-then-n-lt8` after `n < 8`. So a change can take the name
+away under which a proof file answers a goal, and the crate is refused whatever its contracts say. Where that is so the
+names in the proof files are turned to those that the prover asks for, and it is asked again.
+
+For each mutant one line: `refused`, `by a name` (a proof file still names what the change took away, and nothing else
+is refused, so this shows nothing of the contract), `no program` (the compiler refuses it before the prover is asked),
+`no verdict` (the prover gives up, or takes longer than its limit), or `ACCEPTED`, which is for a reader to judge: it is
+the same program, or a contract is too weak. The last line has the figures. Exit 1 where one was accepted or has no
+verdict.
 """
 
 import argparse
+import difflib
 import os
 import re
 import shutil
@@ -27,7 +34,7 @@ import tempfile
 from pathlib import Path
 from typing import NamedTuple
 
-from repository import HOME, bodies_of, functions_of, line_at, rattle_code
+from repository import HOME, SEPARATORS, bodies_of, functions_of, line_at, rattle_code
 
 COMPARISONS = {"<": ["<="], "<=": ["<"], ">": [">="], ">=": [">"], "==": ["!="], "!=": ["=="]}
 OPERATORS = {
@@ -58,10 +65,19 @@ CONSTANT = re.compile(
     r"^ *(?:pub(?:\([a-z]+\))?\s+)?const\s+(?P<name>\w+)\s*:[^=;]*(?:;[^=;]*)?=(?P<value>[^;]*(?:;\s*\d+\][^;]*)*);",
     re.MULTILINE,
 )
-SAID = re.compile(r"^fn (?P<name>[\w:]+): (?P<verdict>proved|not proved|no proof|could not tell)", re.MULTILINE)
+SAID = re.compile(
+    r"^fn (?P<name>[\w:+]+): (?P<verdict>proved|not proved|no proof(?P<waits>: it calls )?|could not tell)",
+    re.MULTILINE,
+)
+# An error in a function's proof files, and those that only say that a name is not there, with the name.
+ERROR = re.compile(r"^(?:\./)?proofs/(?P<function>\S+)/\w+\.antt:\d+:\d+: error: (?P<said>.*)$", re.MULTILINE)
+STALE = re.compile(r"has no (?:field )?`(?P<name>[^`]+)`")
+# What the prover names: between backticks, or as a field near the one that is not there.
+OFFERED = re.compile(r"`([^`\s]+)`|[ (]\.([^\s,()]+)")
+TURNS = 3
 
 LIMIT_SECONDS = 600
-VERDICTS = ("refused", "no program", "no verdict", "ACCEPTED")
+VERDICTS = ("refused", "by a name", "no program", "no verdict", "ACCEPTED")
 
 
 class Mutant(NamedTuple):
@@ -210,24 +226,23 @@ def rounds_of(mutants, reach):
 
 
 class Prover:
-    """`rt dev` on one crate of a copy of the repository, each time from what it knew of the crate unchanged."""
+    """`rt check` on one crate of a copy of the repository, each time from what it knew of the crate unchanged."""
 
     def __init__(self, root, crate):
-        self.root, self.crate = root, crate
-        self.known, self.kept = root / "target/inc" / crate, root / "target/kept" / crate
+        self.folder = root / "crates" / crate
+        self.known, self.kept = self.folder / "out/incremental", root / "kept" / crate
 
     def said(self):
-        """What `rt dev` prints, and its exit; None where it takes too long."""
+        """What `rt check` prints, and its exit; None where it takes too long."""
         if self.kept.is_dir():
             shutil.rmtree(self.known, ignore_errors=True)
             shutil.copytree(self.kept, self.known)
         ran = subprocess.Popen(
-            ["rt", "dev", self.crate],
-            cwd=self.root,
+            ["rt", "check"],
+            cwd=self.folder,
             stdout=subprocess.PIPE,
             stderr=subprocess.STDOUT,
             text=True,
-            env=dict(os.environ, RT_CUT="0"),
             start_new_session=True,
         )
         try:
@@ -241,7 +256,7 @@ class Prover:
         """Checks the crate as it stands, and keeps what the prover then knows."""
         said = self.said()
         if said is None or said[1] != 0:
-            sys.exit(f"{self.crate} is not proved as it stands")
+            sys.exit(f"{self.folder.name} is not proved as it stands")
         shutil.copytree(self.known, self.kept)
 
     def judge(self, mutants):
@@ -251,10 +266,67 @@ class Prover:
             for path, text in texts.items():
                 path.write_text(changed(text, [mutant for mutant in mutants if mutant.path == path]), encoding="utf-8")
             said = self.said()
+            for _ in range(TURNS):
+                if said is None or not self.turn_names(said[0], texts):
+                    break
+                said = self.said()
         finally:
             for path, text in texts.items():
                 path.write_text(text, encoding="utf-8")
         return verdicts(mutants, said)
+
+    def turn_names(self, said, texts):
+        """Turns the names in proof files that the prover does not find, and keeps the texts that these files had.
+        Returns whether one was turned."""
+        offered, turned = offered_names(said), False
+        for function, names in stale_names(said).items():
+            for path in sorted((self.folder / "proofs" / function).glob("*.antt")):
+                text = path.read_text(encoding="utf-8")
+                new = with_names(text, names, offered)
+                if new != text:
+                    texts.setdefault(path, text)
+                    path.write_text(new, encoding="utf-8")
+                    turned = True
+        return turned
+
+
+def stale_names(said):
+    """The names that the prover does not find, by the folder of proofs/ that they stand in."""
+    found = {}
+    for error in ERROR.finditer(said):
+        stale = STALE.search(error["said"])
+        if stale:
+            found.setdefault(error["function"], set()).add(stale["name"])
+    return found
+
+
+def offered_names(said):
+    """What the prover names in place of each name that it does not find, on the line that says so and on the indented
+    ones below it."""
+    found, asked = {}, None
+    for line in said.splitlines():
+        stale = STALE.search(line)
+        if stale:
+            asked = found.setdefault(stale["name"], set())
+        elif not line.startswith(" "):
+            asked = None
+        if asked is not None:
+            asked.update(one or other for one, other in OFFERED.findall(line))
+    return found
+
+
+def name_pattern(name):
+    return re.compile(rf"(?<![^{SEPARATORS}]){re.escape(name)}(?![^{SEPARATORS}])")
+
+
+def with_names(text, names, offered):
+    """A proof file's text with each of these names turned to the nearest one that is offered for it and not used
+    there."""
+    for name in sorted(names):
+        free = sorted(other for other in offered[name] - names if not name_pattern(other).search(text))
+        for nearest in difflib.get_close_matches(name, free, 1, 0.7):
+            text = name_pattern(name).sub(lambda _, nearest=nearest: nearest, text)
+    return text
 
 
 def changed(text, mutants):
@@ -270,17 +342,26 @@ def verdicts(mutants, said):
     if said is None:
         return ["no verdict"] if len(mutants) == 1 else None
     text, status = said
-    functions = {match["name"]: match["verdict"] for match in SAID.finditer(text)}
-    functions.update({full: functions[name] for full, name in homes_of(mutants, functions).items()})
+    functions = {match["name"]: "waits" if match["waits"] else match["verdict"] for match in SAID.finditer(text)}
+    names = homes_of(mutants, functions)
     if not functions:
         return ["no program"] if len(mutants) == 1 else None
     if len(mutants) == 1:
-        return [{0: "ACCEPTED", 1: "refused"}.get(status, "no verdict")]
-    if any(mutant.full not in functions for mutant in mutants):
-        return None
-    found = {"proved": "ACCEPTED", "not proved": "refused", "no proof": "refused", "could not tell": None}
-    each = [found[functions[mutant.full]] for mutant in mutants]
+        found = {0: "ACCEPTED", 1: "refused"}.get(status, "no verdict")
+        return ["by a name" if found == "refused" and is_by_name(text) else found]
+    each = []
+    for mutant in mutants:
+        full = names.get(mutant.full, mutant.full)
+        found = {"proved": "ACCEPTED", "not proved": "refused", "no proof": "refused"}.get(functions.get(full))
+        folder = "/".join(full.split("::")[1:])
+        each.append("by a name" if found == "refused" and is_by_name(text, folder) else found)
     return each if all(each) else None
+
+
+def is_by_name(text, folder=None):
+    """Whether the prover's errors, or those in one folder of proofs/, only say that a name is not there."""
+    errors = [error["said"] for error in ERROR.finditer(text) if folder in (None, error["function"])]
+    return bool(errors) and all(map(STALE.search, errors))
 
 
 def homes_of(mutants, functions):
@@ -308,15 +389,16 @@ def judged(prover, mutants):
 
 
 def copied(home, folder):
-    """A copy of the crates and of what was proved of them."""
+    """A copy of the crates. What was proved of them rt takes from where it was proved."""
     root = Path(folder) / "copy"
     root.mkdir()
-    shutil.copytree(home / "crates", root / "crates")
-    shutil.copy(home / "crates.txt", root)
-    (root / "target").mkdir()
-    for known in ("rlib", "stamp"):
-        if (home / "target" / known).is_dir():
-            shutil.copytree(home / "target" / known, root / "target" / known, symlinks=True)
+    for crate in (path for path in sorted((home / "crates").iterdir()) if path.is_dir()):
+        shutil.copytree(
+            crate, root / "crates" / crate.name, ignore=lambda at, _, top=crate: ["out"] if Path(at) == top else []
+        )
+    for name in ("crates.txt", "HANDLES"):
+        if (home / name).is_file():
+            shutil.copy(home / name, root)
     return root
 
 

@@ -14,20 +14,33 @@ HOME = Path(__file__).resolve().parent.parent
 # A name of antt is any run of characters but these.
 SEPARATORS = r'\s(){}.;,@"«»'
 
-RATTLE_ASIDE = re.compile(r"""//[^\n]*|"(?:\\.|[^"\\])*"|\bb'(?:\\(?:x[0-9a-fA-F]{2}|.)|[^\\'\n])'""", re.DOTALL)
+# Comments, texts, and the characters and bytes between two apostrophes; a name in a clause may end in one.
+RATTLE_ASIDE = re.compile(
+    r"""//[^\n]*|"(?:\\.|[^"\\])*"|(?<![\w'])b?'(?:\\(?:x[0-9a-fA-F]{2}|u\{[0-9a-fA-F_]+\}|.)|[^\\'\n])'""", re.DOTALL
+)
 PROOF_ASIDE = re.compile(rf'\{{-.*?-\}}|"(?:\\.|[^"\\])*"|(?<![^{SEPARATORS}])--[^\n]*', re.DOTALL)
 
 FUNCTION = re.compile(r'\b(?P<public>pub\s+)?(?:(?:const|unsafe|extern\s*(?:"[^"]*")?)\s+)*fn\s+(?P<name>\w+)')
-BLOCK = re.compile(r"\b(?P<kind>impl|mod)\b\s*(?:<[^>{};]*>\s*)?(?:\w+\s*::\s*)*(?P<name>\w+)[^;{}]*\{")
+BLOCK = re.compile(
+    r"^[ \t]*(?:pub(?:\([^()]*\))?\s+)?(?:unsafe\s+)?(?P<kind>impl|mod)\b\s*(?:<(?:[^<>{};]|<[^<>{};]*>)*>\s*)?"
+    r"(?:[^;{}]*\bfor\s+)?(?:\w+\s*::\s*)*(?P<name>\w+)[^;{}]*\{",
+    re.MULTILINE,
+)
 HEADER_TOKEN = re.compile(r"\w+|[()\[\]{};]")
 BRACE = re.compile(r"[{}]")
 CLAUSES = ("requires", "ensures", "ghost")
 PARAMETER = re.compile(r"(\w+)\s*:(?!:)")
-ENSURES = re.compile(r"\bensures\s*\{")
+# A clause may have a name, and a star where it holds what is said of memory.
+ENSURES = re.compile(r"\bensures\*?(?:\s+\w+)?\s*\{")
 
 GHOST_USE = re.compile(r"\bghost use (?P<module>[^\s;{]*)\.\{(?P<names>[^}]*)\};")
-FIELD = re.compile(r"\s\.\s*[^\s(){}.;,]+")
+# A name with what stands behind its dots, or the dots behind a parenthesis. A type's or module's name begins with a
+# capital, and what follows it is a name of its own; behind any other the fields of a value follow.
+DOTTED = re.compile(rf"(?P<head>[^{SEPARATORS}⌜⌝]*)(?:\.[^{SEPARATORS}⌜⌝]+)+")
 TOKEN = re.compile(rf"[^{SEPARATORS}⌜⌝]+")
+
+# What may stand behind a crate's name in crates.txt.
+MARK = re.compile(r"staticlib|\w+=\S+")
 
 BACKTICKED = re.compile(r"`([^`]+)`")
 
@@ -70,7 +83,8 @@ def read(path):
 
 
 def list_files(root):
-    """The files below the root that git tracks or would track; without git all but target/ and .git/."""
+    """The files below the root that git tracks or would track; without git all but target/, .git/ and what rt makes in
+    a crate's out/."""
     # Only a root with a .git of its own: of a folder that a checkout further up ignores git would list nothing.
     if (root / ".git").exists() and shutil.which("git"):
         command = ["git", "-C", str(root), "ls-files", "-z", "--cached", "--others", "--exclude-standard"]
@@ -78,7 +92,12 @@ def list_files(root):
         if listed.returncode == 0:
             return sorted({path for path in os.fsdecode(listed.stdout).split("\0") if path and (root / path).is_file()})
     paths = (path.relative_to(root) for path in root.rglob("*") if path.is_file())
-    return sorted(path.as_posix() for path in paths if path.parts[0] not in ("target", ".git"))
+    return sorted(path.as_posix() for path in paths if path.parts[0] not in ("target", ".git") and not is_made(path))
+
+
+def is_made(path):
+    """Whether a path stands in the folder out/ of a crate."""
+    return path.parts[0] == "crates" and path.parts[2:3] == ("out",)
 
 
 def read_crates(root, findings):
@@ -87,10 +106,11 @@ def read_crates(root, findings):
     if not (root / "crates.txt").is_file():
         findings.add("crates.txt", 1, "missing")
     for number, line in enumerate(read(root / "crates.txt").splitlines(), 1):
-        name, colon, _ = line.partition("#")[0].partition(":")
-        if colon and name.strip():
-            crates[name.strip()] = number
-        elif name.strip() or colon:
+        head, colon, _ = line.partition("#")[0].partition(":")
+        name, *marks = head.split() or [""]
+        if colon and name and all(MARK.fullmatch(mark) for mark in marks):
+            crates[name] = number
+        elif name or colon:
             findings.add("crates.txt", number, "not of the form NAME: DEP DEP ..")
     return crates
 
@@ -190,9 +210,15 @@ def ensures_of(text, function):
     return held
 
 
-def words_of(text):
-    """How often each name and number stands in a text of antt, fields apart."""
-    return Counter(TOKEN.findall(FIELD.sub(" ", text)))
+def words_of(text, modules=frozenset()):
+    """How often each name and number stands in a text of antt, fields apart; what follows one of these modules' names
+    is a name too."""
+
+    def without_fields(dotted):
+        is_path = dotted["head"][:1].isupper() or dotted["head"] in modules
+        return dotted.group() if is_path else dotted["head"] + " "
+
+    return Counter(TOKEN.findall(DOTTED.sub(without_fields, text)))
 
 
 def names_of(listed):

@@ -5,12 +5,12 @@ import unittest
 from trees import TreeCase
 
 LIBRARY = """\
-ghost use mathlib.Core.Path.{_≡_};
-ghost use Rattle·lib·specs.specs.Sum.{sum, kept, size};
+ghost use Rattle.std.specs.Prelude.{◌≡◌, ◌≤◌, length};
+ghost use Rattle.lib.specs.Sum.{sum, kept, size};
 
 pub fn plain_name(x: u8, size: u8, d: &mut [u8]) -> u8
-    ensures { λ r. ⌜ r ≡ sum x 7 size ⌝ }
-    ensures { λ _. ⌜ now (d .exit) ≡ kept (now (d .entry)) ⌝ }
+    ensures value { result ≡ sum x 7 size }
+    ensures d_after { d.new ≡ (kept d.old).0 }
 {
     x
 }
@@ -21,7 +21,7 @@ fn private(x: u8) -> u8 {
 
 impl Left {
     pub fn same(self) -> u8
-        ensures { λ r. ⌜ r ≡ 1 ⌝ }
+        ensures { result ≡ 1 }
     {
         1
     }
@@ -29,35 +29,35 @@ impl Left {
 
 impl Right {
     pub fn same(self) -> u8
-        ensures { λ r. ⌜ r ≡ 2 ⌝ }
+        ensures { result ≡ 2 }
     {
         2
     }
 }
 
 pub fn open(x: u8) -> u8
-    ensures { λ r. ⌜ r ≤ x ⌝ }
+    ensures { result ≤ x }
 {
     x
 }
 """
 THEOREMS = """\
-use Rattle·lib·specs.specs.Sum.{sum, kept, size}
+use Rattle.lib.specs.Sum.{sum, kept, size}
 -- pub open-one : in a comment it is none
 abbrev Keeps : List ℕ → List ℕ → Type 0
-Keeps d d′ =
-    d′ ≡ kept d
+Keeps d d' =
+    d' ≡ (kept d).0
 
 pub plain-name-one :
-    (x n : ℕ) (d : List ℕ) {r r′ : ℕ} {e e′ : List ℕ} → r ≡ sum x 7 n → Keeps d e → r′ ≡ sum x 7 n → Keeps d e′
-    → (r ≡ r′) × (e ≡ e′)
-plain-name-one x n d p q p′ q′ = (p ∙ sym p′, q ∙ sym q′)
+    (x n : ℕ) (d : List ℕ) {r r' : ℕ} {e e' : List ℕ} → r ≡ sum x 7 n → Keeps d e → r' ≡ sum x 7 n → Keeps d e'
+    → (r ≡ r') × (e ≡ e')
+plain-name-one x n d p q p' q' = (p ∙ sym p', q ∙ sym q')
 
 module _ (x : ℕ) where
-  pub left-same-one : {r r′ : ℕ} → r ≡ 1 → r′ ≡ 1 → r ≡ r′
+  pub left-same-one : {r r' : ℕ} → r ≡ 1 → r' ≡ 1 → r ≡ r'
   left-same-one p q = p ∙ sym q
 
-pub right-same-one : {r r′ : ℕ} → r ≡ 2 → r′ ≡ 2 → r ≡ r′
+pub right-same-one : {r r' : ℕ} → r ≡ 2 → r' ≡ 2 → r ≡ r'
 right-same-one p q = p ∙ sym q
 """
 EXCEPTIONS = """\
@@ -94,6 +94,12 @@ class CheckOne(TreeCase):
             "crates/lib/src/lib.rt:24: lib::Right::same has no theorem right-same-one in crates/lib/proofs/One.antt",
         )
 
+    def test_underscores_in_the_name(self):
+        self.assert_passes(
+            {"crates/lib/proofs/One.antt": THEOREMS.replace("plain-name-one", "plain_name_one")},
+            "results: 4 public functions, 0 findings",
+        )
+
     def test_not_public(self):
         status, lines = self.run_check({"crates/lib/proofs/One.antt": THEOREMS.replace("pub plain", "plain")})
         self.assertEqual(status, 1)
@@ -106,9 +112,7 @@ class CheckOne(TreeCase):
     def test_contract_without_a_clause(self):
         self.assert_finds(
             {
-                "crates/lib/src/lib.rt": LIBRARY.replace(
-                    "    ensures { λ _. ⌜ now (d .exit) ≡ kept (now (d .entry)) ⌝ }\n", ""
-                )
+                "crates/lib/src/lib.rt": LIBRARY.replace("    ensures d_after { d.new ≡ (kept d.old).0 }\n", ""),
             },
             "crates/lib/src/lib.rt:4: lib::plain_name and plain-name-one: the contract lacks kept",
             "crates/lib/src/lib.rt:4: lib::plain_name and plain-name-one: 1 equations in the contract, 6 in the theorem",
@@ -116,7 +120,7 @@ class CheckOne(TreeCase):
 
     def test_theorem_that_says_nothing(self):
         self.assert_finds(
-            {"crates/lib/proofs/One.antt": THEOREMS.replace("{r r′ : ℕ} → r ≡ 2 → r′ ≡ 2 → r ≡ r′", "(r : ℕ) → r ≡ r")},
+            {"crates/lib/proofs/One.antt": THEOREMS.replace("{r r' : ℕ} → r ≡ 2 → r' ≡ 2 → r ≡ r'", "(r : ℕ) → r ≡ r")},
             "crates/lib/src/lib.rt:24: lib::Right::same and right-same-one: the theorem lacks 2",
             "crates/lib/src/lib.rt:24: lib::Right::same and right-same-one: 1 equations in the contract, 1 in the theorem",
         )
@@ -126,6 +130,41 @@ class CheckOne(TreeCase):
             {"crates/lib/proofs/One.antt": THEOREMS.replace("sum x 7 n", "size x 7 n")},
             "crates/lib/src/lib.rt:4: lib::plain_name and plain-name-one: the theorem lacks sum",
             "crates/lib/src/lib.rt:4: lib::plain_name and plain-name-one: the contract lacks size",
+        )
+
+    def test_clause_of_another_number(self):
+        self.assert_finds(
+            {"crates/lib/src/lib.rt": LIBRARY.replace("result ≡ 2", "result ≡ 3")},
+            "crates/lib/src/lib.rt:24: lib::Right::same and right-same-one: the theorem lacks 3",
+        )
+
+    def test_clauses_of_memory(self):
+        starred = "    ensures* d_after { ⌜ d.new ≡ (kept d.old).0 ⌝ }\n"
+        self.assert_passes(
+            {"crates/lib/src/lib.rt": LIBRARY.replace("    ensures d_after { d.new ≡ (kept d.old).0 }\n", starred)},
+            "results: 4 public functions, 0 findings",
+        )
+
+    def test_definitions_behind_a_module_s_name(self):
+        brought = "use Rattle.lib.specs.Sum.{kept}\nuse Rattle.lib.specs.Sum as sums\n"
+        theorems = brought + THEOREMS[THEOREMS.index("-- pub") :].replace("sum x", "sums.sum x")
+        self.assert_passes({"crates/lib/proofs/One.antt": theorems}, "results: 4 public functions, 0 findings")
+        self.assert_finds(
+            {"crates/lib/proofs/One.antt": theorems.replace("sums.sum x", "sums.size x")},
+            "crates/lib/src/lib.rt:4: lib::plain_name and plain-name-one: the theorem lacks sum",
+            "crates/lib/src/lib.rt:4: lib::plain_name and plain-name-one: the contract lacks size",
+        )
+
+    def test_fields_are_no_definitions(self):
+        self.assert_passes(
+            {"crates/lib/src/lib.rt": LIBRARY.replace("d.new ≡", "d.new.sum.size ≡")},
+            "results: 4 public functions, 0 findings",
+        )
+
+    def test_words_of_the_library(self):
+        self.assert_passes(
+            {"crates/lib/src/lib.rt": LIBRARY.replace("{ result ≡ 1 }", "{ length result ≡ 1 }")},
+            "results: 4 public functions, 0 findings",
         )
 
     def test_stale_exception(self):

@@ -11,8 +11,8 @@ Text outside a table may say `anything`.
 |---|---|---|
 | a read is the paper's | `reader/specs/Wire.antt:le` `reader/specs/Wire.antt:pick` | `reader/must-fail/cut.edit` |
 | its type | `reader/specs/Wire.antt:Outcome` | not yet |
-| its cases | `reader/specs/Wire.antt:ok`, `reader/specs/Wire.antt:maybe-not′` | not yet |
-| its laws | `reader/proofs/read/le_at/Proof.antt:Laws` `reader/proofs/read/le_at/Proof.antt:back` | not yet |
+| its cases | `reader/specs/Wire.antt:ok`, `reader/specs/Wire.antt:maybe-not'` | not yet |
+| its laws | `reader/proofs/read/le_at/Answers.antt:Laws` `reader/proofs/read/le_at/Answers.antt:back` | not yet |
 | its code | `reader/src/read.rt:le_at` `reader/src/read.rt:WIDEST` | |
 | its own types | `reader/src/read.rt:Cursor` `reader/src/read.rt:Read` | |
 | its methods | `reader/src/read.rt:Cursor::finish` | `crates/reader/must-fail/long.edit` |
@@ -20,11 +20,11 @@ Text outside a table may say `anything`.
 """
 
 SPECIFICATION = """\
-use Prim.Native.Nat.{ℕ}
+use Rattle.std.specs.Prelude.{ℕ}
 -- gone : ℕ
 pub data Outcome (A : Type 0) : Type 0 where
   ok : A → ℕ → Outcome A
-  maybe-not′ or-else : Outcome A
+  maybe-not' or-else : Outcome A
 
 unfoldable pub le : List ℕ → ℕ
 le s =
@@ -106,7 +106,7 @@ class CheckPapers(TreeCase):
         "docs/REFUSALS.md": REFUSALS,
         "docs/PROVING.md": "Proving\n",
         "crates/reader/specs/Wire.antt": SPECIFICATION,
-        "crates/reader/proofs/read/le_at/Proof.antt": PROOF,
+        "crates/reader/proofs/read/le_at/Answers.antt": PROOF,
         "crates/reader/src/read.rt": CODE,
         "crates/reader/must-fail/cut.edit": "# cut\n",
         "crates/reader/must-fail/long.edit": "# long\n",
@@ -139,7 +139,7 @@ class CheckPapers(TreeCase):
     def test_references(self):
         wire, proof, code = (
             "crates/reader/specs/Wire.antt",
-            "crates/reader/proofs/read/le_at/Proof.antt",
+            "crates/reader/proofs/read/le_at/Answers.antt",
             "crates/reader/src/read.rt",
         )
         for reference, wrong in (
@@ -149,7 +149,7 @@ class CheckPapers(TreeCase):
             ("reader/specs/Wire.antt:inner", f"{wire} does not declare inner"),
             ("reader/specs/Wire.antt:bound", f"{wire} does not declare bound"),
             ("reader/specs/Wire.antt:maybe-not", f"{wire} does not declare maybe-not"),
-            ("reader/proofs/read/le_at/Proof.antt:gone", f"{proof} does not declare gone"),
+            ("reader/proofs/read/le_at/Answers.antt:gone", f"{proof} does not declare gone"),
             ("reader/src/gone.rt:le_at", "no file crates/reader/src/gone.rt"),
             ("reader/src/read.rt:gone", f"{code} does not declare gone"),
             ("reader/src/read.rt:le", f"{code} does not declare le"),

@@ -9,14 +9,14 @@ from trees import TreeCase
 LIBRARY = """\
 // A library; this comment has a brace { and a pub fn of no_one().
 pub mod inner;
-ghost use mathlib.Core.Path.{_≡_};
+ghost use Rattle.std.specs.Prelude.{◌≡◌, ◌<◌};
 
 pub struct Place {
     pub at: usize,
 }
 
 pub fn plain(x: u8) -> u8
-    ensures { λ r. ⌜ r ≡ x ⌝ }
+    ensures { result ≡ x }
 {
     x
 }
@@ -25,36 +25,37 @@ pub fn named_and_many<'a>(
     s: &'a [u8], // the bytes {
     n: [u8; 4],
 ) -> [u8; 4]
-    ghost { ℕ }
-    ensures content { λ g r. ⌜ r ≡ of {A = ℕ} (record { 0 = g }) ⌝ }
+    ghost count: { ℕ }
+    ensures content { result ≡ of {A = ℕ} (record { 0 = count }) }
     ensures
         same
-        { λ g r.
-            ⌜ r ≡ r ⌝
+        {
+            result ≡ result
         }
 {
     let brace = b"}{\\"";
+    let (open, close) = ('{', '\\'');
     n
 }
 
-#[no_mangle]
-pub extern "C" fn exported(x: u8) -> u8 ensures { λ r. ⌜ r ≡ x ⌝ } { x }
+#[unsafe(no_mangle)]
+pub extern "C" fn exported(x: u8) -> u8 ensures { result ≡ x } { x }
 
 fn private(x: u8) -> u8
-    requires { ⌜ x < 9 ⌝ }
+    requires { x < 9 }
 {
     x
 }
 
 pub(crate) fn shared(x: u8) -> u8
-    requires { ⌜ x < 9 ⌝ }
+    requires { x < 9 }
 {
     x
 }
 
 pub fn asking(x: u8) -> u8
-    requires { ⌜ x < 9 ⌝ }
-    ensures { λ r. ⌜ r ≡ x ⌝ }
+    requires { x < 9 }
+    ensures { result ≡ x }
 {
     x
 }
@@ -65,8 +66,8 @@ impl<'a> Place<'a> {
     }
 
     pub fn asking(self) -> usize
-        requires { ⌜ self .at < 9 ⌝ }
-        ensures { λ r. ⌜ r ≡ self .at ⌝ }
+        requires { self.at < 9 }
+        ensures { result ≡ self.at }
     {
         self.at
     }
@@ -74,8 +75,8 @@ impl<'a> Place<'a> {
 
 pub mod inline {
     pub fn asking(x: u8) -> u8
-        requires { ⌜ x < 9 ⌝ }
-        ensures { λ r. ⌜ r ≡ x ⌝ }
+        requires { x < 9 }
+        ensures { result ≡ x }
     {
         x
     }
@@ -84,16 +85,16 @@ pub mod inline {
 
 MODULE = """\
 pub fn asking(x: u8) -> u8
-    requires { ⌜ x < 9 ⌝ }
-    ensures { λ r. ⌜ r ≡ x ⌝ }
+    requires { x < 9 }
+    ensures { result ≡ x }
 {
     x
 }
 
 impl crate::Place {
     pub fn asking(self) -> usize
-        requires { ⌜ self .at < 9 ⌝ }
-        ensures { λ r. ⌜ r ≡ self .at ⌝ }
+        requires { self.at < 9 }
+        ensures { result ≡ self.at }
     {
         self.at
     }
@@ -129,19 +130,19 @@ no-axiom = "axiom ?"
 """
 
 BAD_FUNCTION = "pub fn bare(x: u8) -> u8 {\n    x\n}\n"
-ASKING_FUNCTION = "pub fn ask(x: u8)\n    requires { ⌜ x < 9 ⌝ }\n    ensures { λ _. ⌜ x ≡ x ⌝ }\n{\n}\n"
+ASKING_FUNCTION = "pub fn ask(x: u8)\n    requires { x < 9 }\n    ensures { x ≡ x }\n{\n}\n"
 CITING = """\
-ghost use mathlib.Core.Path.{_≡_};
-ghost use Rattle·reader·specs.specs.%s.{%s};
+ghost use Rattle.std.specs.Prelude.{◌≡◌, ◌<◌};
+ghost use Rattle.reader.specs.%s.{%s};
 
 pub fn cited(turned: u8) -> u8
-    ensures { λ r. ⌜ first r ≡ steps (turned at r .filled) ⌝ } // behind
+    ensures { first result ≡ steps (turned at result.filled) } // behind
 {
     x
 }
 
 fn private(x: u8) -> u8
-    ensures { λ r. ⌜ steps r ≡ inner x ⌝ }
+    ensures { steps result ≡ inner x }
 {
     x
 }
@@ -157,7 +158,7 @@ class CheckSurface(TreeCase):
         "crates/reader/src/inner.rt": MODULE,
         "crates/reader/src/inner/deeper.rt": MODULE[MODULE.index("impl") :],
         "crates/reader/specs/First.antt": SPECIFICATION,
-        "crates/reader/proofs/plain/Proof.antt": "spec = search needs\n",
+        "crates/reader/proofs/plain/Answers.antt": "pub returns : goal.returns\nreturns c = search rules\n",
         "crates/teller/src/main.rt": "pub fn told(x: u8) -> u8 {\n    x\n}\n\nfn main() {\n}\n",
         "target/copy.rt": "made, and so not looked at",
         "docs/EXCEPTIONS.md": EXCEPTIONS,
@@ -178,6 +179,16 @@ class CheckSurface(TreeCase):
     def test_crates_line_malformed(self):
         self.assert_finds(
             {"crates.txt": "reader:\nteller: reader\nlost reader\n"}, "crates.txt:3: not of the form NAME: DEP DEP .."
+        )
+
+    def test_crates_line_of_a_static_library(self):
+        self.assert_passes(
+            {"crates.txt": "reader staticlib:\nteller backend=llvm status=3: reader\n"},
+            "surface: 1 libraries, 9 public functions, 0 findings",
+        )
+        self.assert_finds(
+            {"crates.txt": "reader:\nteller: reader\nlost reader: teller\n"},
+            "crates.txt:3: not of the form NAME: DEP DEP ..",
         )
 
     def test_source_outside_the_crates(self):
@@ -208,6 +219,19 @@ class CheckSurface(TreeCase):
             f"impl Place {{\n{BAD_FUNCTION}}}\n", "2: reader::more::Place::bare has no ensures"
         )
 
+    def test_method_of_a_type_with_bounds(self):
+        self.assert_finds_in_library(
+            f"impl<R: Into<u8>> other::Shape for Place<R> {{\n{BAD_FUNCTION}}}\n",
+            "2: reader::more::Place::bare has no ensures",
+        )
+
+    def test_function_that_takes_an_impl(self):
+        self.assert_finds_in_library(
+            "pub fn ask(rt: &impl Print) {\n}\n\n" + BAD_FUNCTION,
+            "1: reader::more::ask has no ensures",
+            "4: reader::more::bare has no ensures",
+        )
+
     def test_exported_function_without_ensures(self):
         self.assert_finds_in_library(
             BAD_FUNCTION.replace("fn", 'extern "C" fn'), "1: reader::more::bare has no ensures"
@@ -223,7 +247,7 @@ class CheckSurface(TreeCase):
 
     def test_ensures_in_a_comment(self):
         self.assert_finds_in_library(
-            "pub fn bare(x: u8) -> u8\n    // ensures { λ r. ⌜ r ≡ x ⌝ }\n{\n    x\n}\n",
+            "pub fn bare(x: u8) -> u8\n    // ensures { result ≡ x }\n{\n    x\n}\n",
             "1: reader::more::bare has no ensures",
         )
 
@@ -241,7 +265,7 @@ class CheckSurface(TreeCase):
 
     def test_requires_alone(self):
         self.assert_finds_in_library(
-            "pub fn ask(x: u8)\n    requires low { ⌜ x < 9 ⌝ }\n{\n}\n",
+            "pub fn ask(x: u8)\n    requires low { x < 9 }\n{\n}\n",
             "1: reader::more::ask has no ensures",
             "1: reader::more::ask has a requires, and docs/EXCEPTIONS.md does not list it",
         )
@@ -257,7 +281,7 @@ class CheckSurface(TreeCase):
 
     def test_clause_without_end(self):
         self.assert_finds_in_library(
-            "pub fn bare(x: u8) -> u8\n    ensures { λ r. ⌜ r ≡ x ⌝\n{\n    x\n}\n",
+            "pub fn bare(x: u8) -> u8\n    ensures { result ≡ x\n{\n    x\n}\n",
             "1: reader::more::bare: where its clauses end and its body begins cannot be read",
         )
 
@@ -276,7 +300,7 @@ class CheckSurface(TreeCase):
         self.assert_stale("reader::plain", "reader::plain has no requires any more")
 
     def test_assumptions_and_holes(self):
-        path = "crates/reader/proofs/plain/Proof.antt"
+        path = "crates/reader/proofs/plain/Answers.antt"
         for text, token in (
             ("axiom pub easy : Easy", "axiom"),
             ("postulate easy : Easy", "postulate"),
@@ -292,16 +316,16 @@ class CheckSurface(TreeCase):
         for text, position in (
             ("-- src/lib.rt:12:5", "src/lib.rt:12:5"),
             ("    -- src/deeper/part.rt:3", "src/deeper/part.rt:3"),
-            ("spec = search needs -- at crates/reader/src/lib.rt:7:1", "crates/reader/src/lib.rt:7:1"),
+            ("returns c = search rules -- at crates/reader/src/lib.rt:7:1", "crates/reader/src/lib.rt:7:1"),
         ):
-            for path in ("crates/reader/proofs/plain/Proof.antt", "crates/reader/specs/First.antt"):
+            for path in ("crates/reader/proofs/plain/Answers.antt", "crates/reader/specs/First.antt"):
                 with self.subTest(text=text, path=path):
                     self.assert_finds({path: f"\n{text}\n"}, f"{path}:2: a position of the code: {position}")
                 self.run_check({})
 
     def test_a_file_of_the_code_is_no_position(self):
         self.assert_passes(
-            {"crates/reader/proofs/plain/Proof.antt": "-- as in src/lib.rt: 1, and src/inner.rt, too\n"},
+            {"crates/reader/proofs/plain/Answers.antt": "-- as in src/lib.rt: 1, and src/inner.rt, too\n"},
             "surface: 1 libraries, 9 public functions, 0 findings",
         )
 
@@ -320,27 +344,37 @@ class CheckSurface(TreeCase):
         )
 
     def test_contract_that_cites_workers_of_another_crate(self):
-        text = CITING.replace("Rattle·reader·specs.", "Rattle·teller.") % ("Workers", "\n    inner,\n    steps,\n")
+        text = CITING.replace("Rattle.reader.specs.", "Rattle.teller.specs.") % (
+            "Workers",
+            "\n    inner,\n    steps,\n",
+        )
         self.assert_cites(
             {"crates/teller/specs/Workers.antt": "pub steps : ℕ → ℕ\n", "crates/reader/src/more.rt": text},
             "7: reader::more::cited cites steps of crates/teller/specs/Workers.antt",
         )
 
+    def test_contract_that_cites_a_name_of_several_words(self):
+        text = CITING.replace("steps", "steps_of") % ("Workers", "steps_of, steps")
+        self.assert_cites(
+            {"crates/reader/specs/Workers.antt": "pub steps_of : ℕ → ℕ\n", "crates/reader/src/more.rt": text},
+            "4: reader::more::cited cites steps_of of crates/reader/specs/Workers.antt",
+        )
+
     def test_contract_that_cites_an_operator_of_workers(self):
         self.assert_cites(
             {
-                "crates/reader/specs/Workers.antt": "pub _at_ : ℕ → ℕ → ℕ\n",
-                "crates/reader/src/more.rt": CITING % ("Workers", "_at_, _at_of_"),
+                "crates/reader/specs/Workers.antt": "pub ◌at◌ : ℕ → ℕ → ℕ\n",
+                "crates/reader/src/more.rt": CITING % ("Workers", "◌at◌, ◌at◌of◌"),
             },
-            "4: reader::more::cited cites _at_ of crates/reader/specs/Workers.antt",
+            "4: reader::more::cited cites ◌at◌ of crates/reader/specs/Workers.antt",
         )
 
     def test_contract_that_leans_on_workers(self):
         self.assert_cites(
             {
                 "crates/teller/specs/Workers.antt": "pub inner : ℕ → ℕ\n",
-                "crates/reader/specs/Middle.antt": "use Rattle·teller.specs.Workers.{inner}\n",
-                "crates/reader/specs/Outer.antt": "use Rattle·reader·specs.specs.Middle as middle\n",
+                "crates/reader/specs/Middle.antt": "use Rattle.teller.specs.Workers.{inner}\n",
+                "crates/reader/specs/Outer.antt": "use Rattle.reader.specs.Middle as middle\n",
                 "crates/reader/src/more.rt": CITING % ("Outer", "steps"),
             },
             "4: reader::more::cited cites steps of crates/reader/specs/Outer.antt",
@@ -349,8 +383,8 @@ class CheckSurface(TreeCase):
     def test_workers_of_private_functions(self):
         self.assert_passes(
             {
-                "crates/reader/specs/Workers.antt": "use Rattle·reader·specs.specs.First.{first}\n",
-                "crates/reader/proofs/One.antt": "use Rattle·reader·specs.specs.Workers.{inner}\n",
+                "crates/reader/specs/Workers.antt": "use Rattle.reader.specs.First.{first}\n",
+                "crates/reader/proofs/One.antt": "use Rattle.reader.specs.Workers.{inner}\n",
                 "crates/reader/src/more.rt": CITING % ("Workers", "inner, turned, filled, behind"),
                 "crates/reader/src/less.rt": CITING % ("First", "first, steps"),
             },
@@ -362,8 +396,8 @@ class CheckSurface(TreeCase):
         for form in ("Workers as workers", "Workers", "Workers.steps"):
             with self.subTest(form):
                 self.assert_finds(
-                    {"crates/reader/specs/Workers.antt": "", path: f"ghost use Rattle·reader·specs.specs.{form};\n"},
-                    f"{path}:1: Rattle·reader·specs.specs.Workers is used without a list of names",
+                    {"crates/reader/specs/Workers.antt": "", path: f"ghost use Rattle.reader.specs.{form};\n"},
+                    f"{path}:1: Rattle.reader.specs.Workers is used without a list of names",
                 )
 
     @unittest.skipUnless(shutil.which("git"), "git is not here")

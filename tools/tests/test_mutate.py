@@ -20,7 +20,7 @@ pub enum Answer {
 }
 
 pub fn judge(n: u8) -> Answer
-    ensures { λ r. ⌜ r ≡ judged 7 n ⌝ }
+    ensures { result ≡ judged 7 n }
 {
     if n < 10 {
         return Answer::Yes(n + 2);
@@ -43,6 +43,23 @@ fn named(s: &[u8]) -> bool {
 """
 
 JUDGE, IS_MARK, NAMED = "one::part::judge", "one::part::Answer::is_mark", "one::part::named"
+
+
+ANSWERS = """\
+pub returns-then-n-lt10 : goal.returns-then-n-lt10
+returns-then-n-lt10 c = c.if-n-lt10.true
+
+pub returns-then-n-lt100 : goal.returns-then-n-lt100
+"""
+# What the prover says of those answers where `n < 10` has become `n < 11`.
+GONE = """\
+./proofs/part/judge/Answers.antt:1:27: error: `returns-then-n-lt10`: module `Rattle.one.proofs.part.judge.Goals` has no \
+`returns-then-n-lt10` that can be named from here (names in it that begin alike: `returns-then-n-lt100`)
+./proofs/part/judge/Answers.antt:2:27: error: `returns-then-n-lt10`: record `Rattle.one.proofs.part.judge.Lts.Then` has \
+no field `if-n-lt10` (nearest: .if-n-lt11)
+  the fields that can be named here are `before`, `if-n-lt11`, `args`
+help: `Goals` has no `returns-then-n-lt10`; rattle asks for `returns-then-n-lt11`, `returns-then-n-lt100`, `returns`
+"""
 
 
 class Tree(unittest.TestCase):
@@ -140,6 +157,19 @@ class Verdicts(Tree):
         self.assertIsNone(mutate.verdicts(self.both(), None))
         self.assertIsNone(mutate.verdicts(self.both(), (f"fn {JUDGE}: proved\n", 1)))
 
+    def test_one_that_waits_for_another(self):
+        said = f"fn {JUDGE}: no proof: it calls `one::other`, which is not proved\nfn {IS_MARK}: not proved\n"
+        self.assertIsNone(mutate.verdicts(self.both(), (said, 1)))
+        said = f"fn {JUDGE}: no proof: expected answers in ./proofs/part/judge/Answers.antt\nfn {IS_MARK}: proved\n"
+        self.assertEqual(["refused", "ACCEPTED"], mutate.verdicts(self.both(), (said, 1)))
+
+    def test_what_only_a_name_refuses(self):
+        gone = GONE + f"fn {JUDGE}: not proved\nfn {IS_MARK}: not proved\n"
+        self.assertEqual(["by a name", "refused"], mutate.verdicts(self.both(), (gone, 1)))
+        self.assertEqual(["by a name"], mutate.verdicts([self.first(JUDGE)], (gone, 1)))
+        more = "./proofs/part/judge/Answers.antt:9:4: error: `returns`: `omega`: the goal does not follow\n"
+        self.assertEqual(["refused", "refused"], mutate.verdicts(self.both(), (gone + more, 1)))
+
     def test_one_alone(self):
         alone = [self.first(JUDGE)]
         self.assertEqual(["no program"], mutate.verdicts(alone, ("error: mismatched types", 1)))
@@ -164,6 +194,38 @@ class Judging(Tree):
         self.prover([(f"fn {JUDGE}: not proved\n", 1)]).judge([self.first(JUDGE)])
         self.assertIn("if n <= 10", self.seen[0])
         self.assertEqual(SOURCE, self.source.read_text(encoding="utf-8"))
+
+    def test_names_that_a_change_took_away_are_turned(self):
+        answers = self.root / "crates/one/proofs/part/judge/Answers.antt"
+        answers.parent.mkdir(parents=True)
+        answers.write_text(ANSWERS, encoding="utf-8")
+        seen = []
+
+        def said(answer):
+            seen.append(answers.read_text(encoding="utf-8"))
+            return answer
+
+        prover = self.prover([(GONE + f"fn {JUDGE}: not proved\n", 1), (f"fn {JUDGE}: proved\n", 0)])
+        inner = prover.said
+        prover.said = lambda: said(inner())
+        self.assertEqual(["ACCEPTED"], prover.judge([self.first(JUDGE)]))
+        self.assertEqual(
+            [ANSWERS, ANSWERS.replace("lt10 ", "lt11 ").replace("lt10\n", "lt11\n").replace("lt10.", "lt11.")], seen
+        )
+        self.assertEqual(ANSWERS, answers.read_text(encoding="utf-8"))
+
+    def test_names_that_stay_away_are_asked_for_once(self):
+        prover = self.prover([(GONE + f"fn {JUDGE}: not proved\n", 1)])
+        self.assertEqual(["by a name"], prover.judge([self.first(JUDGE)]))
+
+    def test_a_copy_has_the_crates_and_not_what_was_made(self):
+        for path in ("crates.txt", "crates/one/out/one.o", "crates/one/proofs/out/Answers.antt"):
+            (self.root / path).parent.mkdir(parents=True, exist_ok=True)
+            (self.root / path).write_text("")
+        with tempfile.TemporaryDirectory() as folder:
+            root = mutate.copied(self.root, folder)
+            found = sorted(path.relative_to(root).as_posix() for path in root.rglob("*") if path.is_file())
+        self.assertEqual(["crates.txt", "crates/one/proofs/out/Answers.antt", "crates/one/src/part.rt"], found)
 
     def test_one_that_is_accepted_is_judged_alone(self):
         both = [self.first(JUDGE), self.first(IS_MARK)]
