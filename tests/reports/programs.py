@@ -6,19 +6,20 @@ import tempfile
 import unittest
 from pathlib import Path
 
-PROGRAMS = Path(__file__).resolve().parents[2] / "target" / "bin"
+CRATES = Path(__file__).resolve().parents[2] / "crates"
 
 # given as a file's content: a folder of that name stands there
 FOLDER = None
 
 
 class ProgramCase(unittest.TestCase):
-    """A case over one program, `program`, which `rt check` has proved and built."""
+    """A case over one program, `program`, which `rt ci`, or `rt run` in its folder, has proved and built."""
 
     program = ""
 
     def setUp(self):
-        self.assertTrue((PROGRAMS / self.program).is_file(), f"{self.program} is not built: rt check {self.program}")
+        self.built = CRATES / self.program / "out" / self.program
+        self.assertTrue(self.built.is_file(), f"{self.program} is not built: rt run in crates/{self.program}")
 
     def assert_line(self, line, files, before=None, **variables):
         """With these files, by name, the program writes exactly this line, and nothing to its errors. `before` is done
@@ -27,7 +28,7 @@ class ProgramCase(unittest.TestCase):
             for name, content in files.items():
                 lay(Path(folder) / name, content)
             answer = subprocess.run(
-                [str(PROGRAMS / self.program)],
+                [str(self.built)],
                 cwd=folder,
                 capture_output=True,
                 timeout=60,

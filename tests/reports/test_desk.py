@@ -55,29 +55,39 @@ class Desk(unittest.TestCase):
         self.assertEqual(list("01234"), [line.split()[0] for line in told])
 
 
-# A kit that proves nothing: it prints what `rt check` prints, and builds a program that writes the text of answer.
+# A kit that proves nothing: it prints what `rt run` prints where reports was proved before, unless `anew` is there, and
+# builds a program that writes the text of answer.
 KIT = """\
 #!/bin/sh
-[ "$*" = "check link_report" ] || exit 2
-echo "rt: words proved (1 s)"
-echo "fn words::load: proved"
-echo "rt: reports proved (unchanged since it was last proved)"
-if [ -e broken ]; then
-    echo "rt: link_report NOT PROVED (exit 1, 2 s)"
-    exit 1
-fi
-echo "rt: link_report proved (2 s)"
-mkdir -p target/bin
-printf '#!/bin/sh\\ncat %s\\n' "$PWD/answer" > target/bin/link_report
-chmod +x target/bin/link_report
-echo "rt: ok, 3 crates proved"
+top=$PWD/../..
+[ "$*" = run ] && [ "${PWD##*/}" = link_report ] || exit 2
+check() {
+    echo "rt: chose --jobs 2 for $1" >&2
+    echo "fn $1::load: proved" >&2
+    if [ -e "$top/broken" ]; then
+        echo "logic=not-proved" >&2
+        echo "rt: the library $1 did not build, so nothing above it was checked" >&2
+        exit 1
+    fi
+    echo "logic=proved functions=1" >&2
+}
+echo "rt: words: begins with what a check kept in another folder" >&2
+check words
+[ ! -e "$top/anew" ] || check reports
+check link_report
+mkdir -p out
+printf '#!/bin/sh\\ncat %s\\n' "$top/answer" > out/link_report
+chmod +x out/link_report
+echo "rt: running out/link_report; to give it other input, run that file yourself" >&2
+out/link_report
 """
 CRATES = """\
 # the crates
+link_report: files reports words
+reports staticlib: words
 words:
-reports: words
-name_report: reports words io os
-link_report: reports words io os
+name_report: reports words
+files: # no crate below it
 """
 
 
@@ -88,7 +98,7 @@ class Built(unittest.TestCase):
         folder = tempfile.TemporaryDirectory()
         self.addCleanup(folder.cleanup)
         self.root = Path(folder.name)
-        (self.root / "crates").mkdir()
+        (self.root / "crates" / "link_report").mkdir(parents=True)
         (self.root / "kit").mkdir()
         (self.root / "kit" / "rt").write_text(KIT)
         (self.root / "kit" / "rt").chmod(0o755)
@@ -105,32 +115,55 @@ class Built(unittest.TestCase):
         return subprocess.run([str(self.root / "desk"), "links", "."], cwd=self.root, env={"PATH": path}, **given)
 
     def test_a_first_build_shows_how_far_it_is(self):
+        (self.root / "anew").touch()
         answer = self.desk()
         self.assertEqual(("links inputs=0 linked=0 names=0\n", ACCEPTED), (answer.stdout, answer.returncode))
         said = answer.stderr.splitlines()
         self.assertEqual(5, len(said), said)
-        self.assertRegex(said[0], r"^desk: installing target/bin/link_report: 3 crates")
-        self.assertRegex(said[1], r"^desk: crate 1 of 3 after \d+ s: words proved")
-        self.assertRegex(said[2], r"^desk: crate 2 of 3 after \d+ s: reports proved \(unchanged")
-        self.assertRegex(said[3], r"^desk: crate 3 of 3 after \d+ s: link_report proved")
+        self.assertRegex(said[0], r"^desk: installing target/bin/link_report: 4 crates")
+        self.assertRegex(said[1], r"^desk: crate 2 of 4 after \d+ s: words proved$")
+        self.assertRegex(said[2], r"^desk: crate 3 of 4 after \d+ s: reports proved$")
+        self.assertRegex(said[3], r"^desk: crate 4 of 4 after \d+ s: link_report proved$")
         self.assertRegex(said[4], r"^desk: target/bin/link_report is installed, after \d+ s")
 
-    def test_what_is_built_is_not_built_again(self):
-        self.desk()
+    def test_what_was_proved_before_is_counted_and_not_told(self):
+        said = self.desk().stderr.splitlines()
+        self.assertEqual(4, len(said), said)
+        self.assertRegex(said[1], r"^desk: crate 2 of 4 after \d+ s: words proved$")
+        self.assertRegex(said[2], r"^desk: crate 4 of 4 after \d+ s: link_report proved$")
+
+    def assert_taken_as_it_is(self):
         answer = self.desk(kit="nowhere")
         self.assertEqual(
             ("links inputs=0 linked=0 names=0\n", "", ACCEPTED), (answer.stdout, answer.stderr, answer.returncode)
         )
+
+    def test_what_is_built_is_not_built_again(self):
+        self.desk()
+        self.assert_taken_as_it_is()
+        made = self.root / "crates" / "words" / "out" / "words.rlib"
+        made.parent.mkdir(parents=True)
+        made.touch()
+        os.utime(made, (2**32, 2**32))
+        self.assert_taken_as_it_is()
         changed = self.root / "crates" / "words.rt"
         changed.touch()
         os.utime(changed, (2**32, 2**32))
-        self.assertIn("crate 3 of 3", self.desk().stderr)
+        self.assertIn("crate 4 of 4", self.desk().stderr)
+
+    def test_what_the_gate_has_built_is_installed(self):
+        made = self.root / "crates" / "link_report" / "out" / "link_report"
+        made.parent.mkdir()
+        made.write_text(f"#!/bin/sh\ncat {self.root}/answer\n")
+        made.chmod(0o755)
+        self.assert_taken_as_it_is()
+        self.assertTrue((self.root / "target" / "bin" / "link_report").is_file())
 
     def test_a_build_that_fails(self):
         (self.root / "broken").touch()
         answer = self.desk()
         self.assertEqual(("", NO_ANSWER), (answer.stdout, answer.returncode))
-        self.assertIn("link_report NOT PROVED", answer.stderr)
+        self.assertIn("the library words did not build", answer.stderr)
 
     def test_no_kit(self):
         answer = self.desk(kit="nowhere")
@@ -158,6 +191,13 @@ class Built(unittest.TestCase):
         self.desk()
         (self.root / "answer").unlink()
         self.assertEqual(NO_ANSWER, self.desk().returncode)
+
+    def test_a_report_that_tells_a_failed_write(self):
+        self.desk()
+        program = self.root / "target" / "bin" / "link_report"
+        program.write_text(program.read_text() + "exit 1\n")
+        answer = self.desk()
+        self.assertEqual(("", NO_ANSWER), (answer.stdout, answer.returncode))
 
     def assert_not_written(self, **options):
         """Whatever the answer is, that it could not be written is told."""

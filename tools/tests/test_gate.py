@@ -11,8 +11,19 @@ from pathlib import Path
 
 HOME = Path(__file__).resolve().parents[2]
 PROOFS = "7 passed, 0 failed"
+OK = "rt: ok; handles allowed: none; must-fail edits: 3 refused; every proof and must-fail edit was done in this run"
+KIT = 'sed -n "s/^kit_known=.\\(.*\\).$/\\1/p" .ci/run'
+
+
+def prover(*lines, status=0, version=KIT):
+    """A stand-in for rt that prints these lines for `rt ci`, without any other word, and for nothing else but its
+    version."""
+    said = "; ".join(f'echo "{line}"' for line in lines)
+    return f'case "$*" in ci) {said}; exit {status} ;; version) {version} ;; *) exit 9 ;; esac'
+
+
 COMMANDS = {
-    "rt": f'case $1 in ci) echo "{PROOFS}" ;; version) sed -n "s/^kit_known=.\\(.*\\).$/\\1/p" .ci/run ;; esac',
+    "rt": prover(OK, PROOFS),
     "cargo": "echo cargo 99.0.0",
     "python3": "",
     "cc": "",
@@ -81,8 +92,38 @@ class Gate(unittest.TestCase):
     def test_no_folder_of_that_name(self):
         self.assertEqual((1, []), self.run_gate(self.root / "nowhere"))
 
+    def test_nothing_is_laid_before_the_proofs(self):
+        self.write("bin/rt", "#!/bin/sh\n" + prover("$(ls)", OK, PROOFS) + "\n")
+        status, lines = self.run_gate(self.lay_down("original"))
+        self.assertEqual((0, "bin bindings differential original"), (status, " ".join(lines[: lines.index(OK)])))
+
+    def test_proofs_that_fail(self):
+        self.write("bin/rt", "#!/bin/sh\n" + prover("6 passed, 1 failed", status=1) + "\n")
+        self.assertEqual((1, ["6 passed, 1 failed"]), self.run_gate())
+
+    def test_bad_edits(self):
+        for said in ("3 refused, 1 bad", "3 refused, 2 of them only by a limit, 10 bad"):
+            with self.subTest(said):
+                self.write("bin/rt", "#!/bin/sh\n" + prover(OK.replace("3 refused", said), PROOFS) + "\n")
+                status, lines = self.run_gate()
+                self.assertEqual(1, status)
+                self.assertRegex(lines[-1], "^a must-fail edit is bad")
+                self.assertNotIn("bindings", lines)
+
+    def test_edits_that_a_limit_refuses(self):
+        said = OK.replace("3 refused", "3 refused, 2 of them only by a limit")
+        self.write("bin/rt", "#!/bin/sh\n" + prover(said, PROOFS) + "\n")
+        status, lines = self.run_gate()
+        self.assertEqual((0, PROOFS), (status, lines[-1]))
+
+    def test_no_word_of_the_edits(self):
+        self.write("bin/rt", "#!/bin/sh\n" + prover(PROOFS) + "\n")
+        status, lines = self.run_gate()
+        self.assertEqual(1, status)
+        self.assertRegex(lines[-1], "^rt ci has not said")
+
     def test_another_kit(self):
-        self.write("bin/rt", f'#!/bin/sh\ncase $1 in ci) echo "{PROOFS}" ;; version) echo another ;; esac\n')
+        self.write("bin/rt", "#!/bin/sh\n" + prover(OK, PROOFS, version="echo another") + "\n")
         status, lines = self.run_gate()
         self.assertEqual((0, PROOFS), (status, lines[-1]))
         self.assertRegex(lines[0], "^the Rattle kit here is another one .*: another in place of rattle-kit-")

@@ -32,11 +32,11 @@ class Lay(unittest.TestCase):
             (folder / path).parent.mkdir(parents=True, exist_ok=True)
             (folder / path).write_bytes(content)
 
-    def lay(self, checkout):
+    def lay(self, checkout, *words):
         environment = {name: value for name, value in os.environ.items() if name != "HNS_RS"}
         if checkout:
             environment["HNS_RS"] = str(checkout)
-        return subprocess.run([str(self.original / "lay")], env=environment, capture_output=True, text=True)
+        return subprocess.run([str(self.original / "lay"), *words], env=environment, capture_output=True, text=True)
 
     def assert_laid(self, checkout):
         answer = self.lay(checkout)
@@ -53,6 +53,13 @@ class Lay(unittest.TestCase):
 
     def test_the_files_of_the_sums(self):
         self.assert_laid(self.checkout)
+
+    def test_a_check_lays_nothing(self):
+        for checkout, status in ((self.checkout, 0), (self.checkout / "nowhere", 1), (None, 3)):
+            with self.subTest(checkout):
+                answer = self.lay(checkout, "--check")
+                self.assertEqual((status, ""), (answer.returncode, answer.stdout))
+                self.assertFalse(self.laid.exists())
 
     def test_twice(self):
         self.assert_laid(self.checkout)
