@@ -1,6 +1,8 @@
 """Checks that every public function of a library has its theorem that two results which meet its contract coincide:
 NAME-one in the crate's proofs/One.antt, hyphens and underscores alike, with the type or else the module in front where a
-crate has two of a name. A function that docs/EXCEPTIONS.md lists as left open needs none, and may have none.
+crate has two of a name. A function that docs/EXCEPTIONS.md lists as left open needs none, and may have none. A static
+library says the contracts of a crate below it again: each of its functions is held to the theorem of the function of
+the same path there.
 
 The theorem supposes the contract of two results. So each definition of specs/ and each number that the `ensures` cite
 must stand twice in the theorem's type, no other definition may stand there, and it has twice the equations of the
@@ -52,6 +54,14 @@ def theorem_of(name, shared):
     crate, *owners, function = name.split("::")
     parts = [owners[-1].lower(), function] if shared and owners else [function]
     return hyphened("-".join(parts)) + "-one"
+
+
+def home_of(name, crates, names):
+    """The full name of the function whose theorem stands for a function: its own, or that of the function which a
+    static library's stands for."""
+    crate, _, path = name.partition("::")
+    below = crates[crate].below if crates[crate].is_static else ()
+    return next((f"{other}::{path}" for other in below if f"{other}::{path}" in names), name)
 
 
 def parts_of(code, start):
@@ -136,9 +146,11 @@ def main(arguments):
         for name in BACKTICKED.findall(cells[0])
     }
     times = Counter((name.split("::")[0], function.name) for name, _, function in functions)
+    names = {name for name, _, _ in functions}
     for name, path, function in functions:
-        crate = name.split("::")[0]
-        theorem = theorem_of(name, times[crate, function.name] > 1)
+        home = home_of(name, crates, names)
+        crate = home.split("::")[0]
+        theorem = theorem_of(home, times[crate, function.name] > 1)
         stands = theorem in theorems[crate]
         if not stands and name not in left_open:
             findings.add(path, function.line, f"{name} has no theorem {theorem} in crates/{crate}/proofs/One.antt")
@@ -148,7 +160,7 @@ def main(arguments):
             one = read(root / "crates" / crate / "proofs" / "One.antt")
             for wrong in parted(read(root / path), one, function, theorems[crate][theorem], crates):
                 findings.add(path, function.line, f"{name} and {theorem}: {wrong}")
-    for name in sorted(left_open - {name for name, _, _ in functions}):
+    for name in sorted(left_open - names):
         findings.add(EXCEPTIONS, 1, f"stale: {name} is no public function of a library")
     return report(f"results: {len(functions)} public functions", findings)
 

@@ -59,9 +59,9 @@ def check_places(root, crates, files, findings):
     folders = {path.name for path in root.glob("crates/*") if path.is_dir()}
     for name in sorted(folders - set(crates)):
         findings.add(f"crates/{name}", 1, "not listed in crates.txt")
-    for name, line in crates.items():
+    for name, listed in crates.items():
         if name not in folders:
-            findings.add("crates.txt", line, f"{name} has no folder in crates/")
+            findings.add("crates.txt", listed.line, f"{name} has no folder in crates/")
 
 
 def public_functions(root, libraries, files):

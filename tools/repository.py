@@ -52,6 +52,14 @@ class Findings(list):
         self.append(f"{path}:{line}: {wrong}")
 
 
+class Listed(NamedTuple):
+    """A crate of crates.txt: its line, whether it is a static library, and the crates below it."""
+
+    line: int
+    is_static: bool
+    below: Tuple[str, ...]
+
+
 class Function(NamedTuple):
     """A function of a Rattle file. Its clauses are None where no body follows the signature."""
 
@@ -101,15 +109,15 @@ def is_made(path):
 
 
 def read_crates(root, findings):
-    """The crates that crates.txt lists, each with its line."""
+    """The crates that crates.txt lists, by their names."""
     crates = {}
     if not (root / "crates.txt").is_file():
         findings.add("crates.txt", 1, "missing")
     for number, line in enumerate(read(root / "crates.txt").splitlines(), 1):
-        head, colon, _ = line.partition("#")[0].partition(":")
+        head, colon, below = line.partition("#")[0].partition(":")
         name, *marks = head.split() or [""]
         if colon and name and all(MARK.fullmatch(mark) for mark in marks):
-            crates[name] = number
+            crates[name] = Listed(number, "staticlib" in marks, tuple(below.split()))
         elif name or colon:
             findings.add("crates.txt", number, "not of the form NAME: DEP DEP ..")
     return crates

@@ -60,6 +60,17 @@ module _ (x : ℕ) where
 pub right-same-one : {r r' : ℕ} → r ≡ 2 → r' ≡ 2 → r ≡ r'
 right-same-one p q = p ∙ sym q
 """
+BOUNDARY = """\
+ghost use Rattle.lib.specs.Sum.{sum, kept};
+
+#[unsafe(no_mangle)]
+pub extern "C" fn plain_name(x: u8, size: u8, d: &mut [u8]) -> u8
+    ensures value { result ≡ sum x 7 size }
+    ensures d_after { d.new ≡ (kept d.old).0 }
+{
+    lib::plain_name(x, size, d)
+}
+"""
 EXCEPTIONS = """\
 ## Results that a contract leaves open
 
@@ -165,6 +176,31 @@ class CheckOne(TreeCase):
         self.assert_passes(
             {"crates/lib/src/lib.rt": LIBRARY.replace("{ result ≡ 1 }", "{ length result ≡ 1 }")},
             "results: 4 public functions, 0 findings",
+        )
+
+    def boundary(self, text=BOUNDARY, mark=" staticlib"):
+        return {"crates.txt": f"lib:\nbound{mark}: lib\nprogram: lib\n", "crates/bound/src/lib.rt": text}
+
+    def test_static_library(self):
+        self.assert_passes(self.boundary(), "results: 5 public functions, 0 findings")
+
+    def test_static_library_that_says_less(self):
+        self.assert_finds(
+            self.boundary(BOUNDARY.replace("    ensures d_after { d.new ≡ (kept d.old).0 }\n", "")),
+            "crates/bound/src/lib.rt:4: bound::plain_name and plain-name-one: the contract lacks kept",
+            "crates/bound/src/lib.rt:4: bound::plain_name and plain-name-one: 1 equations in the contract, 6 in the theorem",
+        )
+
+    def test_function_of_a_static_library_alone(self):
+        self.assert_finds(
+            self.boundary(BOUNDARY.replace("fn plain_name", "fn plainer")),
+            "crates/bound/src/lib.rt:4: bound::plainer has no theorem plainer-one in crates/bound/proofs/One.antt",
+        )
+
+    def test_another_library_has_its_own(self):
+        self.assert_finds(
+            self.boundary(mark=""),
+            "crates/bound/src/lib.rt:4: bound::plain_name has no theorem plain-name-one in crates/bound/proofs/One.antt",
         )
 
     def test_stale_exception(self):
