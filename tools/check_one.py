@@ -1,6 +1,6 @@
 """Checks that every public function of a library has its theorem that two results which meet its contract coincide:
-NAME-one in the crate's proofs/One.antt, hyphens and underscores alike, with the type or else the module in front where a
-crate has two of a name. A function that docs/EXCEPTIONS.md lists as left open needs none, and may have none. A static
+NAME-one in the crate's proofs/One.antt, hyphens and underscores alike, with the type or else the module in front where
+a crate has two of a name. A function that docs/EXCEPTIONS.md lists as left open needs none, and may have none. A static
 library says the contracts of a crate below it again: each of its functions is held to the theorem of the function of
 the same path there.
 

@@ -37,6 +37,14 @@ class ProgramCase(unittest.TestCase):
             )
         self.assertEqual((answer.stdout, answer.stderr, answer.returncode), (line.encode() + b"\n", b"", 0))
 
+    def assert_a_failed_write_is_told(self):
+        """Where the line cannot be written the exit status says so, and a message why."""
+        with tempfile.TemporaryDirectory() as folder, open("/dev/full", "wb") as full:
+            given = {"cwd": folder, "stdout": full, "stderr": subprocess.PIPE, "timeout": 60}
+            answer = subprocess.run([str(self.built)], **given)
+        self.assertEqual(1, answer.returncode)
+        self.assertRegex(answer.stderr.decode(), "^Error: ")
+
     def assert_line_without_input(self, line, files):
         """The same where the program has no standard input, so that the first file that it opens is descriptor 0."""
         self.assert_line(line, files, before=lambda: os.close(0))

@@ -65,6 +65,11 @@ class LinkReport(ProgramCase):
             "refused 26 at 0", bytes.fromhex("10000040") + bytes(10) + bytes.fromhex("0400"), bytes.fromhex("14000000")
         )
 
+    # ---- written
+
+    def test_a_failed_write(self):
+        self.assert_a_failed_write_is_told()
+
     # ---- accepted: each row of the table
 
     def test_none_open_and_redeem_without_partner(self):

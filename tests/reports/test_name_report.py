@@ -78,6 +78,11 @@ class NameReport(ProgramCase):
         )
         self.assert_says("state held name=63 bytes=660", key_of(name), longest)
 
+    # ---- written
+
+    def test_a_failed_write(self):
+        self.assert_a_failed_write_is_told()
+
     # ---- refused
 
     def test_1_no_file_or_no_whole_key(self):
