@@ -1,5 +1,6 @@
 /*
- * Turgamysk's C entries: crates/capi, as `bindings/build` builds it (target/lib/libturgamysk.a, x86-64 Linux).
+ * Turgamysk's C entries: crates/capi, by way of crates/capi_c, as `bindings/build` builds it (x86-64 Linux:
+ * target/lib/libturgamysk.a).
  *
  * Every entry is total, makes no allocation and no system call, keeps nothing between calls, and writes only where its
  * comment says. The caller sees to it that each pointer leads to as many bytes or numbers as stated, that nothing else
