@@ -74,8 +74,8 @@ register (suc t) = shifted (register t)
 unfoldable pub rc : ℕ → ℕ
 rc t = get_or (register (t % 255)) 0 0
 
--- 3.2.5, Algorithm 6, ι. Steps 2 and 3: constant_up_to n i is RC with RC[2 ^ j - 1] = rc(j + 7 i) for each j below n, and
--- 0 in its other bits
+-- 3.2.5, Algorithm 6, ι. Steps 2 and 3: constant_up_to n i is RC with RC[2 ^ j - 1] = rc(j + 7 i) for each j below n,
+-- and 0 in its other bits
 unfoldable pub constant_up_to : ℕ → ℕ → ℕ
 constant_up_to zero i = 0
 constant_up_to (suc j) i = constant_up_to j i + rc (j + 7 * i) * 2 ^ (2 ^ j - 1)
