@@ -119,8 +119,8 @@ def parted(text, one, function, cited, crates):
     """In what a function's contract and its theorem, which cites so much, do not speak of the same."""
     code = rattle_code(text)
     held = words_of(" ".join(ensures_of(code, function)), modules_of(code))
-    contract = {word for word in held if word in brought_by(code, GHOST_USE, crates)} - function.parameters
-    theorem = {word for word in cited if word in brought_by(proof_code(one), USE, crates)}
+    contract = (held.keys() & brought_by(code, GHOST_USE, crates)) - function.parameters
+    theorem = cited.keys() & brought_by(proof_code(one), USE, crates)
     numbers = {word for word in held if word.isdigit()}
     wrong = [f"the theorem lacks {word}" for word in sorted(contract | numbers) if cited[word] < 2]
     wrong += [f"the contract lacks {word}" for word in sorted(theorem - contract)]
