@@ -1,5 +1,5 @@
-// The C boundary: each entry of the libraries under a C name, with its whole contract. bindings/c/turgamysk.h declares
-// them.
+// The C boundary: each entry of the libraries under a C name, with its whole contract. `capi_c` is the static library
+// of them, and bindings/c/turgamysk.h declares them.
 #![tactic(auto)]
 
 pub mod amounts;

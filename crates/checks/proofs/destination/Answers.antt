@@ -11,7 +11,8 @@ pub bounds-coins-a : goal.bounds-coins-a
 bounds-coins-a c = let x = subst (Sizes c.args.coins.now c.args.spent.covenant 2 1) c.in-At.is c.sized_item.ensures in omega (arith, x.0)
 
 pub returns-in-At : goal.returns-in-At
-returns-in-At c = let x = subst (Sizes c.args.coins.now c.args.spent.covenant 2 1) c.in-At.is c.sized_item.ensures in
+returns-in-At c =
+    let x = subst (Sizes c.args.coins.now c.args.spent.covenant 2 1) c.in-At.is c.sized_item.ensures in
     c.named_address.ensures ∙ destined-then _ _ _ x.1 (part-long _ _ _ x.0) (first_byte _ _ x.0)
 
 pub returns-in-Other : goal.returns-in-Other

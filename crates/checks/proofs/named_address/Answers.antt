@@ -7,11 +7,13 @@ use Rattle.checks.proofs.Judging.{named-there, named-absent}
 use Rattle.checks.proofs.named_address.Goals as goal
 
 pub returns-then-same_address : goal.returns-then-same_address
-returns-then-same_address c = let e = told spot_paper c.find.ensures c.in-Part.is in
+returns-then-same_address c =
+    let e = told spot_paper c.find.ensures c.in-Part.is in
     named-there c.args.input (output_of c.args.coins.now c.args.spent) (output_of c.args.tx.now c.args.made) c.args.version (item-counted _ _ _ e) (item-there _ _ _ e) (sym c.same_address.ensures ∙ c.if-same_address.true)
 
 pub returns-in-Part : goal.returns-in-Part
-returns-in-Part c = let e = told spot_paper c.find.ensures c.in-Part.is in
+returns-in-Part c =
+    let e = told spot_paper c.find.ensures c.in-Part.is in
     named-there c.args.input (output_of c.args.coins.now c.args.spent) (output_of c.args.tx.now c.args.made) c.args.version (item-counted _ _ _ e) (item-there _ _ _ e) (sym c.same_address.ensures ∙ c.if-same_address.false)
 
 pub returns-in-Absent : goal.returns-in-Absent

@@ -15,7 +15,8 @@ pub overflow_add-v : goal.overflow_add-v
 overflow_add-v c = let b : get_or c.args.s.now (c.args.at + c.loop-i.i) 0 < 256 = (c.type_inv.s (c.args.at + c.loop-i.i)).fits in omega (arith, c.wide.ensures, room c.loop-i.v c.loop-i.i c.loop-i.invariant.1 (omega arith))
 
 pub loop-i-preserved : goal.loop-i-preserved
-loop-i-preserved c = let l = c.loop-i in
+loop-i-preserved c =
+    let l = c.loop-i in
     let a = c.args in
     let b : get_or a.s.now (a.at + l.i) 0 < 256 = (c.type_inv.s (a.at + l.i)).fits in
     let st = spell-more a.s.now l.v {at = a.at + l.i} {at' = a.at + (l.i + 1)} {k = a.n - (l.i + 1)} {k' = a.n - l.i} (omega arith) (omega arith) (omega arith) in

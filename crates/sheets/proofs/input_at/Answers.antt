@@ -14,7 +14,8 @@ be_at-index-requires c = let p = slice.read _ _ _ (omega arith) (told span_paper
 
 pub returns-in-Span : goal.returns-in-Span
 unfolding input_at
-returns-in-Span c = let p = slice.read _ _ _ (omega arith) (told span_paper c.read_slice.ensures c.in-Span.is) in
+returns-in-Span c =
+    let p = slice.read _ _ _ (omega arith) (told span_paper c.read_slice.ensures c.in-Span.is) in
     let h = array-inside 32 _ _ c.read_array-hash.result (omega (arith, p.fits)) (omega (arith, p.fits)) c.read_array-hash.ensures in
     rw (← c.read_slice.ensures, c.in-Span.is, h, c.be_at-index.ensures.0)
 

@@ -13,9 +13,11 @@ pub completed-requires : goal.completed-requires
 completed-requires c = λ end e. skim-later _ _ _ c.capped-allowance.ensures (told head_paper c.opened.ensures c.in-Head.is) (omega arith) (sym c.fill-passed.ensures.result_value ∙ e)
 
 pub returns-in-Head : goal.returns-in-Head
-returns-in-Head c = let made = tells-kept _ _ _ c.capped-allowance.ensures (told head_paper c.opened.ensures c.in-Head.is) (c.completed.ensures ∙ rw c.fill-passed.ensures.result_value (skim-completed _ _ _ c.capped-allowance.ensures (told head_paper c.opened.ensures c.in-Head.is))) (c.fill-passed.ensures.starts_after, c.fill-passed.ensures.lens_after) in
+returns-in-Head c =
+    let made = tells-kept _ _ _ c.capped-allowance.ensures (told head_paper c.opened.ensures c.in-Head.is) (c.completed.ensures ∙ rw c.fill-passed.ensures.result_value (skim-completed _ _ _ c.capped-allowance.ensures (told head_paper c.opened.ensures c.in-Head.is))) (c.fill-passed.ensures.starts_after, c.fill-passed.ensures.lens_after) in
     record { result_value = made.0; starts_after = made.1.0; lens_after = made.1.1 }
 
 pub returns-in-Refused : goal.returns-in-Refused
-returns-in-Refused c = let made = tells-refused (skim-refused _ _ _ c.capped-allowance.ensures (told head_paper c.opened.ensures c.in-Refused.is)) c.clear.ensures in
+returns-in-Refused c =
+    let made = tells-refused (skim-refused _ _ _ c.capped-allowance.ensures (told head_paper c.opened.ensures c.in-Refused.is)) c.clear.ensures in
     record { result_value = made.0; starts_after = made.1.0; lens_after = made.1.1 }

@@ -81,7 +81,8 @@ pub inputs-smaller : goal.inputs-smaller
 inputs-smaller c = omega arith
 
 pub inputs-preserved : goal.inputs-preserved
-inputs-preserved c = let k = c.inputs in
+inputs-preserved c =
+    let k = c.inputs in
     let same = sym c.same_outpoint.ensures ∙ c.if-not-same_outpoint.false in
     let done = turning.finished _ _ _ _ _ c.loop-k.invariant (omega (arith, c.loop-k-test.false)) (sym (told step_paper c.finish_row.ensures c.in-Passes.is)) in
     walking.more _ _ _ _ k.invariant c.if-n-i.false refl refl same ((rw c.remaining-left-in-inputs.ensures at (sym done))) (ap (λ (x : ℕ). k.linked_outputs + x) c.count-linked_outputs.ensures.0) (ap (λ (x : ℕ). k.name_inputs + x) (c.count-name_inputs.ensures.0 ∙ ap one c.is_name.ensures))
@@ -93,23 +94,27 @@ pub returns-then-not-same_outpoint : goal.returns-then-not-same_outpoint
 returns-then-not-same_outpoint c = c.mismatch.ensures ∙ ap verify.answer_of (walking.differing _ _ _ _ c.inputs.invariant c.if-n-i.false refl refl (sym c.same_outpoint.ensures ∙ c.if-not-same_outpoint.true))
 
 pub returns-then-coins-a : goal.returns-then-coins-a
-returns-then-coins-a c = let same = sym c.same_outpoint.ensures ∙ c.if-not-same_outpoint.false in
+returns-then-coins-a c =
+    let same = sym c.same_outpoint.ensures ∙ c.if-not-same_outpoint.false in
     let other = comparing.byte-differs _ _ c.loop-j.invariant c.loop-j-test.true c.if-coins-a.true in
     let stop = turning.unequal _ _ _ _ _ c.loop-k.invariant (c.inputs.invariant.long.1, c.inputs.invariant.long.0) (omega (arith, c.loop-k-test.true)) c.pair_of.ensures c.in-At.is c.unequal.ensures other in
     c.refused.ensures ∙ ap verify.answer_of (walking.stopped _ _ _ _ c.inputs.invariant c.if-n-i.false refl refl same (rw c.remaining-left-in-inputs.ensures at (sym stop)))
 
 pub returns-in-Malformed : goal.returns-in-Malformed
-returns-in-Malformed c = let same = sym c.same_outpoint.ensures ∙ c.if-not-same_outpoint.false in
+returns-in-Malformed c =
+    let same = sym c.same_outpoint.ensures ∙ c.if-not-same_outpoint.false in
     let stop = turning.malformed _ _ _ _ _ c.loop-k.invariant (c.inputs.invariant.long.1, c.inputs.invariant.long.0) (omega (arith, c.loop-k-test.true)) c.pair_of.ensures c.in-Malformed.is in
     c.malformed.ensures ∙ ap verify.answer_of (walking.stopped _ _ _ _ c.inputs.invariant c.if-n-i.false refl refl same (rw c.remaining-left-in-inputs.ensures at (sym stop)))
 
 pub returns-in-Breaks : goal.returns-in-Breaks
-returns-in-Breaks c = let same = sym c.same_outpoint.ensures ∙ c.if-not-same_outpoint.false in
+returns-in-Breaks c =
+    let same = sym c.same_outpoint.ensures ∙ c.if-not-same_outpoint.false in
     let stop = turning.finished _ _ _ _ _ c.loop-k.invariant (omega (arith, c.loop-k-test.false)) (sym (told step_paper c.finish_row.ensures c.in-Breaks.is)) in
     c.refused-in-Breaks.ensures ∙ ap verify.answer_of (walking.stopped _ _ _ _ c.inputs.invariant c.if-n-i.false refl refl same (rw c.remaining-left-in-inputs.ensures at (sym stop)))
 
 pub returns-in-Stop : goal.returns-in-Stop
-returns-in-Stop c = let k = c.inputs in
+returns-in-Stop c =
+    let k = c.inputs in
     let same = sym c.same_outpoint.ensures ∙ c.if-not-same_outpoint.false in
     let stop = subst (Ahead c.args.tx.now c.args.coins.now k.i (turn_at c.args.tx.now c.args.coins.now k.i k.coin_position k.output_position c.remaining-left-in-inputs.result)) c.in-Stop.is c.start_row.ensures in
     c.refused-in-Stop.ensures ∙ ap verify.answer_of (walking.stopped _ _ _ _ k.invariant c.if-n-i.false refl refl same (rw c.remaining-left-in-inputs.ensures at (sym stop)))
