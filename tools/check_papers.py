@@ -84,7 +84,7 @@ def has_item(code, owner, name):
     """Whether a Rattle file has the function, constant or type; with an owner, the function in an `impl` of it."""
     if owner:
         return any((function.owner, function.name) == (owner, name) for function in functions_of(code))
-    return re.search(rf"\b(?:fn|const|struct|enum)\s+{name}\b", code) is not None
+    return re.search(rf"\b(?:fn|const|struct|enum|trait)\s+{name}\b", code) is not None
 
 
 def fault_of(root, reference):

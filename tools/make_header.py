@@ -95,18 +95,24 @@ SIDES = {
 }
 AMOUNTS = {
     "OVERFLOW": Said(
-        "crates/capi/specs/Amounts.antt", r"\namount_flat Checked\.Overflow = record \{ outcome = (\d+);", ""
+        "crates/capi/specs/Amounts.antt",
+        r"\namount_flat \(Err ArithmeticError\.Overflow\) = record \{ outcome = (\d+);",
+        "",
     ),
     "UNDERFLOW": Said(
-        "crates/capi/specs/Amounts.antt", r"\namount_flat Checked\.Underflow = record \{ outcome = (\d+);", ""
+        "crates/capi/specs/Amounts.antt",
+        r"\namount_flat \(Err ArithmeticError\.Underflow\) = record \{ outcome = (\d+);",
+        "",
     ),
 }
 KINDS = "crates/covenants/src/kind.rt"
 CLASSES = "crates/name_state/specs/Paper.antt"
 CLASS = re.compile(r"^class_number Class\.(\w+) = (\d+)$", re.MULTILINE)
-# The refusals that carry a choice of their rule: what the choice is called in the header, and the crate whose constants
+# The refusals that carry a choice of their rule: what the choice is called in the header, and the crate whose `Reason`
 # it is.
 CHOICES = {"InvalidNameState": ("REASON", "name_state_codec"), "MalformedCovenant": ("FIELD", None)}
+REASON = re.compile(r"\benum Reason \{([^}]*)\}")
+VARIANT = re.compile(r"\b(\w+) = (\d+),")
 
 
 def sources_of(root, crate):
@@ -186,10 +192,20 @@ def refusals_of(root):
         yield int(number), name.strip("`"), BACKTICKED.findall(carries), rule
 
 
+def reasons_of(root, crate):
+    """The numbers of a crate's `Reason`, by their names."""
+    return {
+        in_capitals(name): int(number)
+        for _, code in sources_of(root, crate)
+        for variants in REASON.findall(code)
+        for name, number in VARIANT.findall(variants)
+    }
+
+
 def choices_of(root, crate, rule):
-    """The choices that a rule has, by their names; where they are a crate's constants too, these are the same."""
+    """The choices that a rule has, by their names; where they are a crate's `Reason` too, these are the same."""
     choices = {in_capitals(words): int(number) for number, words in CHOICE.findall(rule)}
-    known = constants_of(sources_of(root, crate), "u8") if crate else choices
+    known = reasons_of(root, crate) if crate else choices
     for name, number in choices.items():
         if known.get(name) != number:
             raise Wrong(f"crates/{crate}/src", f"{name} is {known.get(name)}, and {number} in {REFUSALS}")

@@ -46,7 +46,11 @@ class MakeHeader(TreeCase):
             (r"MAX_SIZE: usize = 668;", "MAX_SIZE: usize = 6_680;", "MAX_RECORD_SIZE 6680"),
             (r"MAX_ITEMS: usize = 1000;", "MAX_ITEMS: usize = 999;", "MAX_ITEMS 999"),
             (r"pub starts: \[usize; 1000\]", "pub starts: [usize; 999]", "DIRECTORY_SIZE 999"),
-            (r"= Covenant::MAX_ENCODED_SIZE;", "= Covenant::MAX_ITEM_SIZE;", "RUN_ALLOWANCE 1000000"),
+            (
+                r"ALLOWANCE: usize = Covenant::MAX_ENCODED_SIZE;",
+                "ALLOWANCE: usize = Covenant::MAX_ITEM_SIZE;",
+                "RUN_ALLOWANCE 1000000",
+            ),
             (r"LONGEST: usize = 32_768;", "LONGEST: usize = 32_769;", "MAX_REPORT_SHEET_SIZE 32769"),
             (r"LONGEST: usize = 16_777_216;", "LONGEST: usize = 9;", "MAX_SHEET_SIZE 9"),
             (r"(LinkLineFits = .* ≤) 89", r"\1 90", "MAX_LINK_LINE_SIZE 90"),
@@ -96,7 +100,7 @@ class MakeHeader(TreeCase):
         self.assertRegex(lines[0], f"^{HEADER}:[0-9]+: [0-9]+ lines where tools/make_header.py writes [0-9]+$")
 
     def test_reasons_that_differ_from_the_codes(self):
-        changes = self.changed(r"const SAFE_INTEGER: u8 = 6;", "const SAFE_INTEGER: u8 = 7;")
+        changes = self.changed(r"SafeInteger = 6,", "SafeInteger = 7,")
         wrong = "SAFE_INTEGER is 7, and 6 in docs/REFUSALS.md"
         self.assert_finds(changes, f"crates/name_state_codec/src:1: {wrong}")
 

@@ -1,17 +1,28 @@
 -- G, the schedule, a round, and the work vector.
-use Rattle.std.proofs.Common.{◌≡◌, ℕ, zero, suc, ◌+◌, ◌/◌, ◌%◌, ◌^◌, ◌<◌, Bool, true, T, ltb, List, [], ◌∷◌, length, get_or, ap, mod-eq_of_lt, arith, lit<, ltb→lt}
+use Rattle.std.proofs.Common.{◌≡◌, ℕ, zero, suc, ◌+◌, ◌-◌, ◌/◌, ◌%◌, ◌^◌, ◌<◌, Bool, true, T, ltb, List, [], ◌∷◌, length, get_or, ap, mod-eq_of_lt, arith, lit<, ltb→lt}
+use Rattle.std.specs.Int.{w64, rotate_right}
 use lib.Bits.{bit_xor}
 use Rattle.words.proofs.Table.{both, both_left, both_right}
 use Rattle.words.proofs.Entries.{all-entries}
 use Rattle.blake2b.specs.Blake2b.{ror, iv, sigma, half, lay, G, word, cols, diags, round, row, rounds, flagged, start}
 use Rattle.blake2b.specs.Workers.{Row, column, joined, four, turned, back}
 
--- four lines of G, with the two sums as they were computed
+-- the library's rotation is the standard's
+turned_is : (r x : ℕ) → 0 < r → r < 64 → rotate_right w64 x r ≡ ror r x
+turned_is r x h k =
+    let e : r % 64 ≡ r = omega arith in
+    let f : (64 - r) % 64 ≡ 64 - r = omega arith in
+    rw (e, f)
+
+-- four lines of G, with the sums and the turned words as they were computed
 pub half-law :
-    (r s a b c d x : ℕ) {a1 c1 : ℕ} → a1 ≡ (a + b + x) % 2 ^ 64 → c1 ≡ (c + ror r (bit_xor d a1)) % 2 ^ 64 →
-    a1 ∷ ror s (bit_xor b c1) ∷ c1 ∷ ror r (bit_xor d a1) ∷ [] ≡ half r s a b c d x
+    (r s a b c d x : ℕ) {d1 b1 : ℕ} → ((0 < r) × (r < 64)) × ((0 < s) × (s < 64)) →
+    d1 ≡ rotate_right w64 (bit_xor d (((a + b) % 2 ^ 64 + x) % 2 ^ 64)) r → b1 ≡ rotate_right w64 (bit_xor b ((c + d1) % 2 ^ 64)) s →
+    ((a + b) % 2 ^ 64 + x) % 2 ^ 64 ∷ b1 ∷ (c + d1) % 2 ^ 64 ∷ d1 ∷ [] ≡ half r s a b c d x
 unfolding half
-half-law r s a b c d x e f = rw (f, e)
+half-law r s a b c d x p e f =
+    let sum : ((a + b) % 2 ^ 64 + x) % 2 ^ 64 ≡ (a + b + x) % 2 ^ 64 = omega arith in
+    rw (f, e, turned_is r _ p.0.0 p.0.1, turned_is s _ p.1.0 p.1.1, sum)
 
 -- ---- the schedule: each word number in it is below 16
 

@@ -1,13 +1,13 @@
 // BLAKE2b (RFC 7693), with no key and a result of 32 bytes.
 #![tactic(auto)]
 
-ghost use Rattle.std.specs.Prelude.{◌≡◌, ℕ, ◌+◌, ◌%◌, ◌^◌, ◌<◌, ◌≤◌, ◌++◌, drop, slice_index};
+ghost use Rattle.std.specs.Prelude.{◌≡◌, ◌<◌, ◌≤◌, ◌++◌, drop, slice_index};
 ghost use Rattle.words.specs.Words.{bytes, lanes};
-ghost use Rattle.blake2b.specs.Blake2b.{iv, half, word, cols, diags, rounds, flagged, start, folded, F, first, digest, blake2b};
+ghost use Rattle.blake2b.specs.Blake2b.{iv, half, word, cols, diags, round, row, rounds, flagged, start, folded, F, first, digest, blake2b};
 ghost use Rattle.blake2b.specs.Workers.{Row, column, joined, four, turned, back};
 
-use std::num::wrapping_add_u64;
-use words::load::{load_u64, load_words};
+use std::array;
+use words::load::load_words;
 use words::store::words_bytes;
 
 // 2.6
@@ -36,39 +36,17 @@ const SIGMA: [[u8; 16]; 10] = [
     [10, 2, 8, 4, 7, 6, 1, 5, 15, 11, 9, 14, 3, 12, 13, 0],
 ];
 
-// a + b + x, modulo 2^64.
-fn add3(a: u64, b: u64, x: u64) -> u64
-    ensures { result ≡ (a + b + x) % 2 ^ 64 }
+// Four lines of G, on its four words v[a], v[b], v[c] and v[d], with the rotations R and S.
+fn half<const R: u32, const S: u32>(w: [u64; 4], x: u64) -> [u64; 4]
+    requires { ((0 < R) × (R < 64)) × ((0 < S) × (S < 64)) }
+    ensures { result ≡ half R S (slice_index w 0) (slice_index w 1) (slice_index w 2) (slice_index w 3) x }
 {
-    wrapping_add_u64(wrapping_add_u64(a, b), x)
-}
-
-// The first four lines of G, on its four words v[a], v[b], v[c] and v[d].
-fn g_first(w: [u64; 4], x: u64) -> [u64; 4]
-    ensures { result ≡ half 32 24 (slice_index w 0) (slice_index w 1) (slice_index w 2) (slice_index w 3) x }
-{
-    let b0 = w[1];
-    let a1 = add3(w[0], b0, x);
-    let d0 = w[3] ^ a1;
-    let d1 = d0 >> 32 | d0 << 32;
-    let c1 = wrapping_add_u64(w[2], d1);
-    let b1 = b0 ^ c1;
-    let b2 = b1 >> 24 | b1 << 40;
-    [a1, b2, c1, d1]
-}
-
-// The last four lines of G.
-fn g_last(w: [u64; 4], y: u64) -> [u64; 4]
-    ensures { result ≡ half 16 63 (slice_index w 0) (slice_index w 1) (slice_index w 2) (slice_index w 3) y }
-{
-    let b0 = w[1];
-    let a1 = add3(w[0], b0, y);
-    let d0 = w[3] ^ a1;
-    let d1 = d0 >> 16 | d0 << 48;
-    let c1 = wrapping_add_u64(w[2], d1);
-    let b1 = b0 ^ c1;
-    let b2 = b1 >> 63 | b1 << 1;
-    [a1, b2, c1, d1]
+    let [a, b, c, d] = w;
+    let a = a.wrapping_add(b).wrapping_add(x);
+    let d = (d ^ a).rotate_right(R);
+    let c = c.wrapping_add(d);
+    let b = (b ^ c).rotate_right(S);
+    [a, b, c, d]
 }
 
 // m[s[i]], where s is a row of the schedule.
@@ -103,14 +81,14 @@ fn mix(m: &[u64; 16], s: &[u8; 16], at: usize, v: [u64; 16]) -> [u64; 16]
     requires { (at ≤ 8) × Row s.now }
     ensures { result ≡ four m.now s.now at v }
 {
-    let p0 = g_first(column_of(v, 0), pick(m, s, at));
-    let p1 = g_first(column_of(v, 1), pick(m, s, at + 2));
-    let p2 = g_first(column_of(v, 2), pick(m, s, at + 4));
-    let p3 = g_first(column_of(v, 3), pick(m, s, at + 6));
-    let q0 = g_last(p0, pick(m, s, at + 1));
-    let q1 = g_last(p1, pick(m, s, at + 3));
-    let q2 = g_last(p2, pick(m, s, at + 5));
-    let q3 = g_last(p3, pick(m, s, at + 7));
+    let p0 = half::<32, 24>(column_of(v, 0), pick(m, s, at));
+    let p1 = half::<32, 24>(column_of(v, 1), pick(m, s, at + 2));
+    let p2 = half::<32, 24>(column_of(v, 2), pick(m, s, at + 4));
+    let p3 = half::<32, 24>(column_of(v, 3), pick(m, s, at + 6));
+    let q0 = half::<16, 63>(p0, pick(m, s, at + 1));
+    let q1 = half::<16, 63>(p1, pick(m, s, at + 3));
+    let q2 = half::<16, 63>(p2, pick(m, s, at + 5));
+    let q3 = half::<16, 63>(p3, pick(m, s, at + 7));
     join(q0, q1, q2, q3)
 }
 
@@ -154,10 +132,7 @@ fn diagonals(m: &[u64; 16], s: &[u8; 16], v: [u64; 16]) -> [u64; 16]
 fn inverted(last: bool) -> u64
     ensures { result ≡ flagged last (slice_index iv 6) }
 {
-    if last {
-        return IV[6] ^ 0xFFFFFFFFFFFFFFFF;
-    }
-    IV[6]
+    if last { !IV[6] } else { IV[6] }
 }
 
 // v before the rounds; no message has so many bytes that the counter's high word is not 0.
@@ -184,59 +159,44 @@ fn begin(h: [u64; 8], t: u64, last: bool) -> [u64; 16]
     ]
 }
 
-// The twelve rounds, in a row and not in a loop: so each row of the schedule is known where its words are read.
+// Round R. Its row of the schedule is known when the round is compiled, and so is each word that it reads.
+fn round<const R: usize>(m: &[u64; 16], v: [u64; 16]) -> [u64; 16]
+    ensures { result ≡ round m.now (row R) v }
+{
+    let s = SIGMA[R % 10];
+    diagonals(m, &s, columns(m, &s, v))
+}
+
+// The twelve rounds, in a row and not in a loop, which would look the words up as it runs: it takes 1.6 times as long.
 fn churn(m: &[u64; 16], v: [u64; 16]) -> [u64; 16]
     ensures { result ≡ rounds 12 m.now v }
 {
-    let table = SIGMA;
-    let s0 = table[0];
-    let s1 = table[1];
-    let s2 = table[2];
-    let s3 = table[3];
-    let s4 = table[4];
-    let s5 = table[5];
-    let s6 = table[6];
-    let s7 = table[7];
-    let s8 = table[8];
-    let s9 = table[9];
-    let v1 = diagonals(m, &s0, columns(m, &s0, v));
-    let v2 = diagonals(m, &s1, columns(m, &s1, v1));
-    let v3 = diagonals(m, &s2, columns(m, &s2, v2));
-    let v4 = diagonals(m, &s3, columns(m, &s3, v3));
-    let v5 = diagonals(m, &s4, columns(m, &s4, v4));
-    let v6 = diagonals(m, &s5, columns(m, &s5, v5));
-    let v7 = diagonals(m, &s6, columns(m, &s6, v6));
-    let v8 = diagonals(m, &s7, columns(m, &s7, v7));
-    let v9 = diagonals(m, &s8, columns(m, &s8, v8));
-    let v10 = diagonals(m, &s9, columns(m, &s9, v9));
-    let v11 = diagonals(m, &s0, columns(m, &s0, v10));
-    let v12 = diagonals(m, &s1, columns(m, &s1, v11));
-    v12
+    let v = round::<0>(m, v);
+    let v = round::<1>(m, v);
+    let v = round::<2>(m, v);
+    let v = round::<3>(m, v);
+    let v = round::<4>(m, v);
+    let v = round::<5>(m, v);
+    let v = round::<6>(m, v);
+    let v = round::<7>(m, v);
+    let v = round::<8>(m, v);
+    let v = round::<9>(m, v);
+    let v = round::<10>(m, v);
+    round::<11>(m, v)
 }
 
 // The two halves of v folded into h.
 fn fold(h: [u64; 8], v: [u64; 16]) -> [u64; 8]
     ensures { result ≡ folded h v }
 {
-    [
-        h[0] ^ v[0] ^ v[8],
-        h[1] ^ v[1] ^ v[9],
-        h[2] ^ v[2] ^ v[10],
-        h[3] ^ v[3] ^ v[11],
-        h[4] ^ v[4] ^ v[12],
-        h[5] ^ v[5] ^ v[13],
-        h[6] ^ v[6] ^ v[14],
-        h[7] ^ v[7] ^ v[15],
-    ]
+    array::from_fn(|i| h[i] ^ v[i] ^ v[i + 8])
 }
 
 // F, in place: t is the counter, and `last` the flag of the last block.
 fn compress(h: &mut [u64; 8], m: &[u64; 16], t: u64, last: bool)
     ensures { h.new ≡ F h.old m.now t last }
 {
-    let old = *h;
-    let new = fold(old, churn(m, begin(old, t, last)));
-    *h = new;
+    *h = fold(*h, churn(m, begin(*h, t, last)));
 }
 
 // h before the first block.
@@ -244,7 +204,7 @@ fn initial() -> [u64; 8]
     ensures { result ≡ first }
 {
     let mut h = IV;
-    h[0] = h[0] ^ 0x01010020;
+    h[0] ^= 0x01010020;
     h
 }
 
@@ -269,13 +229,12 @@ pub fn blake2b_256(m: &[u8]) -> [u8; 32]
     ensures { result ≡ blake2b m.now }
 {
     let mut h = initial();
-    let mut at: usize = 0;
-    while 128 < m.len() - at {
-        let next = at + 128;
-        absorb(&mut h, m, at, next as u64, false);
-        at = next;
+    // The blocks before the last; that one is the message's end even where it is whole.
+    let before = m.len().saturating_sub(1) / 128;
+    for i in 0..before {
+        absorb(&mut h, m, 128 * i, (i as u64 + 1) * 128, false);
     }
-    absorb(&mut h, m, at, m.len() as u64, true);
+    absorb(&mut h, m, 128 * before, m.len() as u64, true);
     squeeze(h)
 }
 
@@ -284,24 +243,9 @@ pub fn blake2b_256(m: &[u8]) -> [u8; 32]
 pub fn blake2b_256_value_nonce(value: u64, nonce: &[u8; 32]) -> [u8; 32]
     ensures { result ≡ blake2b (bytes 8 value ++ nonce.now) }
 {
-    let block = [
-        value,
-        load_u64(nonce, 0),
-        load_u64(nonce, 8),
-        load_u64(nonce, 16),
-        load_u64(nonce, 24),
-        0,
-        0,
-        0,
-        0,
-        0,
-        0,
-        0,
-        0,
-        0,
-        0,
-        0,
-    ];
+    let mut block = [0u64; 16];
+    block[0] = value;
+    load_words(&mut block[1..5], nonce, 0);
     let mut h = initial();
     compress(&mut h, &block, 40, true);
     squeeze(h)

@@ -1,5 +1,5 @@
 -- Answers of single reads as flat structs.
-use Rattle.std.specs.Prelude.{ℕ, []}
+use Rattle.std.specs.Prelude.{ℕ, List, []}
 use Rattle.refusal.specs.Outcome.{position_of, Outcome, ok, err}
 use Rattle.primitives.specs.declared.Outpoint.{Outpoint}
 use Rattle.capi.specs.Flat.{stop_flat, moved_flat}
@@ -19,3 +19,8 @@ span_flat (err k vs p) = record { stop = stop_flat k vs (position_of p); start =
 -- a reader's outcome, and the outpoint that stands beside it
 abbrev pub outpoint_flat : Outcome Unit × Outpoint → OutpointAnswer
 outpoint_flat r = record { stop = moved_flat r.0; outpoint = r.1 }
+
+-- the bytes that were read, or others where they were refused
+abbrev pub bytes_or : List ℕ → Outcome (List ℕ) → List ℕ
+bytes_or others (ok bs p) = bs
+bytes_or others (err k vs p) = others

@@ -1,10 +1,9 @@
 // Covenants back to back, single items of a covenant, and kinds.
 ghost use Rattle.std.specs.Prelude.{◌≡◌, true, false};
-ghost use Rattle.std.proofs.Math.Option.{some, none};
 ghost use Rattle.covenants.specs.Kind.{is_name, is_linked, is_unspendable};
 ghost use Rattle.covenants.specs.Written.{size_answer};
 ghost use Rattle.covenants.specs.Items.{directory_item, seek_at, of_width, number_in};
-ghost use Rattle.covenants.specs.Paper.{spot_paper, shown_item_hash};
+ghost use Rattle.covenants.specs.Paper.{spot_paper, number_paper, shown_item_hash};
 ghost use Rattle.runs.specs.Run.{run_said};
 ghost use Rattle.runs.specs.Covenants.{default_allowance, covenant_run, covenant_step};
 ghost use Rattle.runs.specs.Paper.{run_step_paper, run_end_paper};
@@ -12,15 +11,15 @@ ghost use Rattle.capi.specs.Flat.{write_flat};
 ghost use Rattle.capi.specs.Items.{step_flat, run_flat, place_flat, item_flat};
 
 use crate::sheet::ViewAnswer;
-use crate::{FlatStop, WriteAnswer, passed, stopped, write_answer};
-use covenants::items::{
-    ItemU8, ItemU32, ItemU64, Spot, find, item, item_name_hash, item_u8, item_u32, item_u64,
-};
+use crate::{FlatStop, WriteAnswer};
+use covenants::Accepted;
+use covenants::items::{Directory, find};
 use covenants::kind::{is_linked, is_name, is_unspendable};
-use covenants::write::encoded_size;
-use encoding::read::Cursor;
+use encoding::integer::Integer;
+use encoding::read::{Cursor, Span};
+use primitives::NameHash;
 use runs::archive::import_archive;
-use runs::{Run, RunEnd, Step, read_run, read_run_with_limit};
+use runs::{Run, RunStop, read_run, read_run_with_limit};
 
 // A covenant of a run, or how the run ended; and how many covenants there were up to here.
 #[repr(C)]
@@ -50,92 +49,87 @@ pub struct ItemAnswer {
     pub value: u64,
 }
 
-fn step_answer(step: Step) -> StepAnswer
-    ensures { result ≡ step_flat (run_step_paper step) }
+fn step_answer(run: Run, step: Result<Option<(Accepted, Run)>, RunStop>) -> StepAnswer
+    ensures { result ≡ step_flat (run_step_paper run.count step) }
 {
     match step {
-        Step::Covenant {
-            kind,
-            count,
-            used,
-            run,
-        } => {
-            let cursor = run.cursor;
-            StepAnswer {
-                stop: passed(cursor.position),
-                ended: false,
-                kind,
-                count,
-                used,
-                covenants: run.count,
-            }
-        }
-        Step::Ended(count) => StepAnswer {
-            stop: passed(0),
+        Ok(Some((accepted, after))) => StepAnswer {
+            stop: FlatStop::from(after.cursor),
+            ended: false,
+            kind: accepted.kind,
+            count: accepted.count,
+            used: accepted.used,
+            covenants: after.count,
+        },
+        Ok(None) => StepAnswer {
+            stop: FlatStop::PASSED,
             ended: true,
             kind: 0,
             count: 0,
             used: 0,
-            covenants: count,
+            covenants: run.count,
         },
-        Step::Refused { stop, count } => StepAnswer {
-            stop: stopped(stop),
+        Err(refused) => StepAnswer {
+            stop: FlatStop::from(refused.stop),
             ended: false,
             kind: 0,
             count: 0,
             used: 0,
-            covenants: count,
+            covenants: refused.count,
         },
     }
 }
 
-fn run_answer(end: RunEnd) -> RunAnswer
-    ensures { result ≡ run_flat (run_end_paper end) }
-{
-    match end {
-        RunEnd::Ended(count) => RunAnswer {
-            stop: passed(0),
-            covenants: count,
-        },
-        RunEnd::Refused { stop, count } => RunAnswer {
-            stop: stopped(stop),
-            covenants: count,
-        },
+impl From<Result<usize, RunStop>> for RunAnswer {
+    ghost from_gives = { λ end flat. flat ≡ run_flat (run_end_paper end) };
+
+    fn from(end: Result<usize, RunStop>) -> RunAnswer {
+        match end {
+            Ok(covenants) => RunAnswer {
+                stop: FlatStop::PASSED,
+                covenants,
+            },
+            Err(refused) => RunAnswer {
+                stop: FlatStop::from(refused.stop),
+                covenants: refused.count,
+            },
+        }
     }
 }
 
-fn place_answer(spot: Spot) -> ViewAnswer
-    ensures { result ≡ place_flat (spot_paper spot) }
-{
-    match spot {
-        Spot::Part { start, len } => ViewAnswer {
-            exists: true,
-            offset: start,
-            length: len,
-        },
-        Spot::Absent => ViewAnswer {
-            exists: false,
-            offset: 0,
-            length: 0,
-        },
+impl From<Option<Span>> for ViewAnswer {
+    ghost from_gives = { λ item flat. flat ≡ place_flat (spot_paper item) };
+
+    fn from(item: Option<Span>) -> ViewAnswer {
+        match item {
+            Some(part) => ViewAnswer {
+                exists: true,
+                offset: part.start,
+                length: part.len,
+            },
+            None => ViewAnswer {
+                exists: false,
+                offset: 0,
+                length: 0,
+            },
+        }
     }
 }
 
-fn an_item(value: u64) -> ItemAnswer
-    ensures { result ≡ item_flat (some value) }
-{
-    ItemAnswer {
-        exists: true,
-        value,
-    }
-}
+impl<T: Integer> From<Option<T>> for ItemAnswer {
+    ghost from_gives = { λ item flat. flat ≡ item_flat (number_paper T.number item) };
 
-fn no_item() -> ItemAnswer
-    ensures { result ≡ item_flat none }
-{
-    ItemAnswer {
-        exists: false,
-        value: 0,
+    fn from(item: Option<T>) -> ItemAnswer {
+        match item {
+            Some(number) => ItemAnswer {
+                exists: true,
+                value: number.into_u64(),
+            },
+            None => ItemAnswer {
+                exists: false,
+                value: 0,
+            },
+        }
     }
 }
 
@@ -148,7 +142,7 @@ pub fn turgamysk_covenant_run_next(source: &[u8], position: usize, count: usize)
         cursor: Cursor { position },
         count,
     };
-    step_answer(run.next(source))
+    step_answer(run, run.next(source))
 }
 
 pub fn turgamysk_covenant_run_next_with_limit(
@@ -163,25 +157,25 @@ pub fn turgamysk_covenant_run_next_with_limit(
         cursor: Cursor { position },
         count,
     };
-    step_answer(run.next_with_limit(source, limit))
+    step_answer(run, run.next_with_limit(source, limit))
 }
 
 pub fn turgamysk_covenant_read_run(source: &[u8]) -> RunAnswer
     ensures { result ≡ run_flat (run_said (covenant_run default_allowance source.now)) }
 {
-    run_answer(read_run(source))
+    RunAnswer::from(read_run(source))
 }
 
 pub fn turgamysk_covenant_read_run_with_limit(source: &[u8], limit: usize) -> RunAnswer
     ensures { result ≡ run_flat (run_said (covenant_run limit source.now)) }
 {
-    run_answer(read_run_with_limit(source, limit))
+    RunAnswer::from(read_run_with_limit(source, limit))
 }
 
 pub fn turgamysk_covenant_import_archive(source: &[u8]) -> RunAnswer
     ensures { result ≡ run_flat (run_said (covenant_run default_allowance source.now)) }
 {
-    run_answer(import_archive(source))
+    RunAnswer::from(import_archive(source))
 }
 
 // ---- items
@@ -189,11 +183,11 @@ pub fn turgamysk_covenant_import_archive(source: &[u8]) -> RunAnswer
 pub fn turgamysk_covenant_find(source: &[u8], position: usize, index: usize) -> ViewAnswer
     ensures { result ≡ place_flat (seek_at source.now position index) }
 {
-    place_answer(find(Cursor { position }, source, index))
+    ViewAnswer::from(find(Cursor { position }, source, index))
 }
 
 pub fn turgamysk_covenant_item<'a>(
-    source: &[u8],
+    source: &'a [u8],
     starts: &'a [usize; 1000],
     lens: &'a [usize; 1000],
     count: usize,
@@ -201,11 +195,17 @@ pub fn turgamysk_covenant_item<'a>(
 ) -> ViewAnswer
     ensures { result ≡ place_flat (directory_item source.now starts.now lens.now count index) }
 {
-    place_answer(item(source, starts, lens, count, index))
+    let directory = Directory {
+        source,
+        starts,
+        lens,
+        count,
+    };
+    ViewAnswer::from(directory.item(index))
 }
 
 pub fn turgamysk_covenant_item_u8<'a>(
-    source: &[u8],
+    source: &'a [u8],
     starts: &'a [usize; 1000],
     lens: &'a [usize; 1000],
     count: usize,
@@ -213,14 +213,17 @@ pub fn turgamysk_covenant_item_u8<'a>(
 ) -> ItemAnswer
     ensures { result ≡ item_flat (number_in 1 source.now (directory_item source.now starts.now lens.now count index)) }
 {
-    match item_u8(source, starts, lens, count, index) {
-        ItemU8::Value(v) => an_item(v as u64),
-        ItemU8::Absent => no_item(),
-    }
+    let directory = Directory {
+        source,
+        starts,
+        lens,
+        count,
+    };
+    ItemAnswer::from(directory.item_number::<u8>(index))
 }
 
 pub fn turgamysk_covenant_item_u32<'a>(
-    source: &[u8],
+    source: &'a [u8],
     starts: &'a [usize; 1000],
     lens: &'a [usize; 1000],
     count: usize,
@@ -228,14 +231,17 @@ pub fn turgamysk_covenant_item_u32<'a>(
 ) -> ItemAnswer
     ensures { result ≡ item_flat (number_in 4 source.now (directory_item source.now starts.now lens.now count index)) }
 {
-    match item_u32(source, starts, lens, count, index) {
-        ItemU32::Value(v) => an_item(v as u64),
-        ItemU32::Absent => no_item(),
-    }
+    let directory = Directory {
+        source,
+        starts,
+        lens,
+        count,
+    };
+    ItemAnswer::from(directory.item_number::<u32>(index))
 }
 
 pub fn turgamysk_covenant_item_u64<'a>(
-    source: &[u8],
+    source: &'a [u8],
     starts: &'a [usize; 1000],
     lens: &'a [usize; 1000],
     count: usize,
@@ -243,14 +249,17 @@ pub fn turgamysk_covenant_item_u64<'a>(
 ) -> ItemAnswer
     ensures { result ≡ item_flat (number_in 8 source.now (directory_item source.now starts.now lens.now count index)) }
 {
-    match item_u64(source, starts, lens, count, index) {
-        ItemU64::Value(v) => an_item(v),
-        ItemU64::Absent => no_item(),
-    }
+    let directory = Directory {
+        source,
+        starts,
+        lens,
+        count,
+    };
+    ItemAnswer::from(directory.item_number::<u64>(index))
 }
 
 pub fn turgamysk_covenant_item_name_hash<'a>(
-    source: &[u8],
+    source: &'a [u8],
     starts: &'a [usize; 1000],
     lens: &'a [usize; 1000],
     count: usize,
@@ -260,22 +269,33 @@ pub fn turgamysk_covenant_item_name_hash<'a>(
     ensures value { result ≡ (shown_item_hash (of_width 32 source.now (directory_item source.now starts.now lens.now count index))).0 }
     ensures hash_after { hash.new ≡ (shown_item_hash (of_width 32 source.now (directory_item source.now starts.now lens.now count index))).1 }
 {
-    let answer = item_name_hash(source, starts, lens, count, index);
-    let name_hash = answer.hash;
-    let h = name_hash.0;
-    *hash = h;
-    answer.found
+    let directory = Directory {
+        source,
+        starts,
+        lens,
+        count,
+    };
+    let found = directory.item_name_hash(index);
+    let NameHash(bytes) = found.unwrap_or(NameHash([0; 32]));
+    *hash = bytes;
+    found.is_some()
 }
 
 pub fn turgamysk_covenant_encoded_size<'a>(
-    source: &[u8],
+    source: &'a [u8],
     starts: &'a [usize; 1000],
     lens: &'a [usize; 1000],
     count: usize,
 ) -> WriteAnswer
     ensures { result ≡ write_flat (size_answer source.now starts.now lens.now count) }
 {
-    write_answer(encoded_size(source, starts, lens, count))
+    let directory = Directory {
+        source,
+        starts,
+        lens,
+        count,
+    };
+    WriteAnswer::from(directory.encoded_size())
 }
 
 // ---- kinds

@@ -14,19 +14,18 @@ ghost use Rattle.std.specs.Prelude.{◌≡◌, [], ◌++◌};
 ghost use Rattle.words.specs.Words.{bytes};
 ghost use Rattle.sha3.specs.Sha3.{sha3};
 ghost use Rattle.blake2b.specs.Blake2b.{blake2b};
-ghost use Rattle.refusal.specs.Paper.{number_of, carried};
-ghost use Rattle.encoding.specs.Paper.{put_paper, moved_paper};
+ghost use Rattle.refusal.specs.Paper.{number_of, carried, put_paper};
+ghost use Rattle.encoding.specs.Paper.{moved_paper};
 ghost use Rattle.covenants.specs.Covenant.{skimmed, covenant_at, whole_covenant};
 ghost use Rattle.covenants.specs.Written.{encode_answer, encode_content};
 ghost use Rattle.covenants.specs.Paper.{covenant_paper, directory_of};
 ghost use Rattle.capi.specs.Flat.{stop_flat, moved_flat, covenant_flat, write_flat};
 ghost use Rattle.capi.specs.Version.{version};
 
-use covenants::write::encode;
-use covenants::{Covenant, ReadCovenant};
-use encoding::put::Put;
-use encoding::read::{Cursor, Moved};
-use refusal::{Stop, carried_by, number};
+use covenants::items::Directory;
+use covenants::{Accepted, Covenant};
+use encoding::read::{Cursor, Read};
+use refusal::{Refusal, Stop, carried_by, number};
 
 // The number of the interface that bindings/c/turgamysk.h declares.
 pub const VERSION: u32 = 1;
@@ -40,22 +39,19 @@ pub fn turgamysk_version() -> u32
 pub fn turgamysk_sha3_256(message: &[u8], digest: &mut [u8; 32])
     ensures { digest.new ≡ sha3 message.now }
 {
-    let d = sha3::sha3_256(message);
-    *digest = d;
+    *digest = sha3::sha3_256(message);
 }
 
 pub fn turgamysk_blake2b_256(message: &[u8], digest: &mut [u8; 32])
     ensures { digest.new ≡ blake2b message.now }
 {
-    let d = blake2b::blake2b_256(message);
-    *digest = d;
+    *digest = blake2b::blake2b_256(message);
 }
 
 pub fn turgamysk_blake2b_256_value_nonce(value: u64, nonce: &[u8; 32], digest: &mut [u8; 32])
     ensures { digest.new ≡ blake2b (bytes 8 value ++ nonce.now) }
 {
-    let d = blake2b::blake2b_256_value_nonce(value, nonce);
-    *digest = d;
+    *digest = blake2b::blake2b_256_value_nonce(value, nonce);
 }
 
 // What a call that reads says beside what it read: 0, or the refusal's number and up to three of what it carries; and
@@ -91,84 +87,107 @@ pub struct WriteAnswer {
     pub written: usize,
 }
 
-pub(crate) fn passed(position: usize) -> FlatStop
-    ensures { result ≡ stop_flat 0 [] position }
-{
-    FlatStop {
+impl FlatStop {
+    // Nothing was refused, where there is no position to say.
+    pub(crate) const PASSED: FlatStop = FlatStop {
         number: 0,
         first: 0,
         second: 0,
         third: 0,
-        position,
+        position: 0,
+    };
+}
+
+impl From<Cursor> for FlatStop {
+    ghost from_gives = { λ next flat. flat ≡ stop_flat 0 [] next.position };
+
+    fn from(next: Cursor) -> FlatStop {
+        FlatStop {
+            position: next.position,
+            ..FlatStop::PASSED
+        }
     }
 }
 
-pub(crate) fn stopped(stop: Stop) -> FlatStop
-    ensures { result ≡ stop_flat (number_of stop.refusal) (carried stop.refusal) stop.position }
-{
-    let refusal = stop.refusal;
-    let carried = carried_by(refusal);
-    FlatStop {
-        number: number(refusal),
-        first: carried.first,
-        second: carried.second,
-        third: carried.third,
-        position: stop.position,
+impl From<Stop> for FlatStop {
+    ghost from_gives = { λ stop flat. flat ≡ stop_flat (number_of stop.refusal) (carried stop.refusal) stop.position };
+
+    fn from(stop: Stop) -> FlatStop {
+        let carried = carried_by(stop.refusal);
+        FlatStop {
+            number: number(stop.refusal),
+            first: carried.first,
+            second: carried.second,
+            third: carried.third,
+            position: stop.position,
+        }
     }
 }
 
-pub(crate) fn moved_answer(moved: Moved) -> FlatStop
-    ensures { result ≡ moved_flat (moved_paper moved) }
-{
-    match moved {
-        Moved::To(next) => passed(next.position),
-        Moved::Refused(stop) => stopped(stop),
+impl From<Refusal> for FlatStop {
+    ghost from_gives = { λ refusal flat. flat ≡ stop_flat (number_of refusal) (carried refusal) 0 };
+
+    fn from(refusal: Refusal) -> FlatStop {
+        FlatStop::from(Stop {
+            refusal,
+            position: 0,
+        })
     }
 }
 
-fn covenant_answer(read: ReadCovenant) -> CovenantAnswer
-    ensures { result ≡ covenant_flat (covenant_paper read) }
-{
-    match read {
-        ReadCovenant::Accepted {
-            kind,
-            count,
-            used,
-            next,
-        } => CovenantAnswer {
-            stop: passed(next.position),
-            kind,
-            count,
-            used,
-        },
-        ReadCovenant::Refused(stop) => CovenantAnswer {
-            stop: stopped(stop),
-            kind: 0,
-            count: 0,
-            used: 0,
-        },
+impl From<Result<Cursor, Stop>> for FlatStop {
+    ghost from_gives = { λ moved flat. flat ≡ moved_flat (moved_paper moved) };
+
+    fn from(moved: Result<Cursor, Stop>) -> FlatStop {
+        match moved {
+            Ok(next) => FlatStop::from(next),
+            Err(stop) => FlatStop::from(stop),
+        }
     }
 }
 
-fn write_answer(put: Put) -> WriteAnswer
-    ensures { result ≡ write_flat (put_paper put) }
-{
-    match put {
-        Put::Written(n) => WriteAnswer {
-            number: 0,
-            first: 0,
-            second: 0,
-            third: 0,
-            written: n,
-        },
-        Put::Refused(refusal) => {
-            let carried = carried_by(refusal);
-            WriteAnswer {
-                number: number(refusal),
-                first: carried.first,
-                second: carried.second,
-                third: carried.third,
-                written: 0,
+impl From<Read<Accepted>> for CovenantAnswer {
+    ghost from_gives = { λ read flat. flat ≡ covenant_flat (covenant_paper read) };
+
+    fn from(read: Read<Accepted>) -> CovenantAnswer {
+        match read {
+            Ok((accepted, next)) => CovenantAnswer {
+                stop: FlatStop::from(next),
+                kind: accepted.kind,
+                count: accepted.count,
+                used: accepted.used,
+            },
+            Err(stop) => CovenantAnswer {
+                stop: FlatStop::from(stop),
+                kind: 0,
+                count: 0,
+                used: 0,
+            },
+        }
+    }
+}
+
+impl From<Result<usize, Refusal>> for WriteAnswer {
+    ghost from_gives = { λ put flat. flat ≡ write_flat (put_paper put) };
+
+    fn from(put: Result<usize, Refusal>) -> WriteAnswer {
+        match put {
+            Ok(written) => WriteAnswer {
+                number: 0,
+                first: 0,
+                second: 0,
+                third: 0,
+                written,
+            },
+            Err(refusal) => {
+                let carried = carried_by(refusal);
+                WriteAnswer {
+                    number: number(refusal),
+                    first: carried.first,
+                    second: carried.second,
+                    third: carried.third,
+                    written: 0,
+                }
             }
         }
     }
@@ -177,7 +196,7 @@ fn write_answer(put: Put) -> WriteAnswer
 pub fn turgamysk_covenant_read(bytes: &[u8], position: usize, limit: usize) -> CovenantAnswer
     ensures { result ≡ covenant_flat (skimmed (covenant_at limit bytes.now position)) }
 {
-    covenant_answer(Covenant::read(Cursor { position }, bytes, limit))
+    CovenantAnswer::from(Covenant::read(Cursor { position }, bytes, limit))
 }
 
 pub fn turgamysk_covenant_decode(
@@ -189,7 +208,7 @@ pub fn turgamysk_covenant_decode(
     ensures starts_after { starts.new ≡ (directory_of (whole_covenant bytes.now)).starts }
     ensures lens_after { lens.new ≡ (directory_of (whole_covenant bytes.now)).lens }
 {
-    covenant_answer(Covenant::decode_into(bytes, starts, lens))
+    CovenantAnswer::from(Covenant::decode_into(bytes, starts, lens))
 }
 
 pub fn turgamysk_covenant_decode_from(
@@ -203,13 +222,19 @@ pub fn turgamysk_covenant_decode_from(
     ensures starts_after { starts.new ≡ (directory_of (covenant_at limit bytes.now position)).starts }
     ensures lens_after { lens.new ≡ (directory_of (covenant_at limit bytes.now position)).lens }
 {
-    covenant_answer(Covenant::decode_from_into(Cursor { position }, bytes, limit, starts, lens))
+    CovenantAnswer::from(Covenant::decode_from_into(
+        Cursor { position },
+        bytes,
+        limit,
+        starts,
+        lens,
+    ))
 }
 
 pub fn turgamysk_covenant_encode<'a>(
     dest: &mut [u8],
     kind: u8,
-    source: &[u8],
+    source: &'a [u8],
     starts: &'a [usize; 1000],
     lens: &'a [usize; 1000],
     count: usize,
@@ -217,5 +242,11 @@ pub fn turgamysk_covenant_encode<'a>(
     ensures value { result ≡ write_flat (encode_answer kind source.now starts.now lens.now count dest.old) }
     ensures dest_after { dest.new ≡ encode_content kind source.now starts.now lens.now count dest.old }
 {
-    write_answer(encode(dest, kind, source, starts, lens, count))
+    let directory = Directory {
+        source,
+        starts,
+        lens,
+        count,
+    };
+    WriteAnswer::from(directory.encode(dest, kind))
 }

@@ -3,16 +3,16 @@ ghost use Rattle.std.specs.Prelude.{◌≡◌};
 ghost use Rattle.primitives.specs.Outpoints.{shown_outpoint};
 ghost use Rattle.sheets.specs.Sheet.{input_at, place_at, transaction_counts, coin_counts};
 ghost use Rattle.sheets.specs.Viewer.{view_of};
-ghost use Rattle.sheets.specs.Paper.{place_paper, sheet_paper, view_paper};
+ghost use Rattle.encoding.specs.Paper.{read_paper};
+ghost use Rattle.sheets.specs.Paper.{sheet_paper, view_paper};
 ghost use Rattle.capi.specs.Reading.{outpoint_flat};
 ghost use Rattle.capi.specs.Sheet.{sheet_flat, output_flat, view_flat};
 
-use crate::wire::{OutpointAnswer, outpoint_answer};
-use crate::{FlatStop, passed, stopped};
-use encoding::read::Cursor;
-use refusal::Stop;
+use crate::FlatStop;
+use crate::wire::OutpointAnswer;
+use encoding::read::{Cursor, Read};
 use sheets::viewer::{View, find_view};
-use sheets::{ReadPlace, SheetRead, input_at, judge_coins, judge_transaction, place_at};
+use sheets::{Counts, Place, SheetStop, input_at, judge_coins, judge_transaction, place_at};
 
 // How many inputs (or coins) and outputs a sheet has, or the refusal and which sheet that is.
 #[repr(C)]
@@ -47,97 +47,95 @@ pub struct ViewAnswer {
     pub length: usize,
 }
 
-fn sheet_answer(read: SheetRead) -> SheetAnswer
-    ensures { result ≡ sheet_flat (sheet_paper read) }
-{
-    match read {
-        SheetRead::Counts(inputs, outputs) => SheetAnswer {
-            stop: passed(0),
-            side: 0,
-            inputs,
-            outputs,
-        },
-        SheetRead::Refused { refusal, side } => SheetAnswer {
-            stop: stopped(Stop {
-                refusal,
-                position: 0,
-            }),
-            side,
-            inputs: 0,
-            outputs: 0,
-        },
+impl From<Result<Counts, SheetStop>> for SheetAnswer {
+    ghost from_gives = { λ judged flat. flat ≡ sheet_flat (sheet_paper judged) };
+
+    fn from(judged: Result<Counts, SheetStop>) -> SheetAnswer {
+        match judged {
+            Ok(counts) => SheetAnswer {
+                stop: FlatStop::PASSED,
+                side: 0,
+                inputs: counts.inputs,
+                outputs: counts.outputs,
+            },
+            Err(refused) => SheetAnswer {
+                stop: FlatStop::from(refused.refusal),
+                side: refused.side,
+                inputs: 0,
+                outputs: 0,
+            },
+        }
     }
 }
 
-fn output_answer(read: ReadPlace) -> PlaceAnswer
-    ensures { result ≡ output_flat (place_paper read) }
-{
-    match read {
-        ReadPlace::Output(place, next) => PlaceAnswer {
-            stop: passed(next.position),
-            value: place.value.0,
-            version: place.address.version,
-            start: place.address.start,
-            size: place.address.len,
-            covenant: place.covenant,
-            kind: place.kind,
-        },
-        ReadPlace::Refused(stop) => PlaceAnswer {
-            stop: stopped(stop),
-            value: 0,
-            version: 0,
-            start: 0,
-            size: 0,
-            covenant: 0,
-            kind: 0,
-        },
+impl From<Read<Place>> for PlaceAnswer {
+    ghost from_gives = { λ read flat. flat ≡ output_flat (read_paper read) };
+
+    fn from(read: Read<Place>) -> PlaceAnswer {
+        match read {
+            Ok((place, next)) => PlaceAnswer {
+                stop: FlatStop::from(next),
+                value: place.value.0,
+                version: place.address.version,
+                start: place.address.start,
+                size: place.address.len,
+                covenant: place.covenant,
+                kind: place.kind,
+            },
+            Err(stop) => PlaceAnswer {
+                stop: FlatStop::from(stop),
+                value: 0,
+                version: 0,
+                start: 0,
+                size: 0,
+                covenant: 0,
+                kind: 0,
+            },
+        }
     }
 }
 
-fn view_answer(view: View) -> ViewAnswer
-    ensures { result ≡ view_flat (view_paper view) }
-{
-    match view {
-        View::Transaction { start, len } => ViewAnswer {
-            exists: true,
-            offset: start,
-            length: len,
-        },
-        View::Coins { start, len } => ViewAnswer {
-            exists: true,
-            offset: start,
-            length: len,
-        },
-        View::Nowhere => ViewAnswer {
-            exists: false,
-            offset: 0,
-            length: 0,
-        },
+impl From<Option<View>> for ViewAnswer {
+    ghost from_gives = { λ view flat. flat ≡ view_flat (view_paper view) };
+
+    fn from(view: Option<View>) -> ViewAnswer {
+        match view {
+            Some(View { part, .. }) => ViewAnswer {
+                exists: true,
+                offset: part.start,
+                length: part.len,
+            },
+            None => ViewAnswer {
+                exists: false,
+                offset: 0,
+                length: 0,
+            },
+        }
     }
 }
 
 pub fn turgamysk_judge_transaction(sheet: &[u8]) -> SheetAnswer
     ensures { result ≡ sheet_flat (transaction_counts sheet.now) }
 {
-    sheet_answer(judge_transaction(sheet))
+    SheetAnswer::from(judge_transaction(sheet))
 }
 
 pub fn turgamysk_judge_coins(sheet: &[u8]) -> SheetAnswer
     ensures { result ≡ sheet_flat (coin_counts sheet.now) }
 {
-    sheet_answer(judge_coins(sheet))
+    SheetAnswer::from(judge_coins(sheet))
 }
 
 pub fn turgamysk_sheet_input_at(sheet: &[u8], position: usize) -> OutpointAnswer
     ensures { result ≡ outpoint_flat (shown_outpoint (input_at sheet.now position)) }
 {
-    outpoint_answer(input_at(Cursor { position }, sheet))
+    OutpointAnswer::from(input_at(Cursor { position }, sheet))
 }
 
 pub fn turgamysk_sheet_place_at(sheet: &[u8], position: usize, side: u8) -> PlaceAnswer
     ensures { result ≡ output_flat (place_at side sheet.now position) }
 {
-    output_answer(place_at(Cursor { position }, sheet, side))
+    PlaceAnswer::from(place_at(Cursor { position }, sheet, side))
 }
 
 pub fn turgamysk_view_item(
@@ -149,5 +147,5 @@ pub fn turgamysk_view_item(
 ) -> ViewAnswer
     ensures { result ≡ view_flat (view_of tx.now coins.now side index item) }
 {
-    view_answer(find_view(tx, coins, side, index, item))
+    ViewAnswer::from(find_view(tx, coins, side, index, item))
 }

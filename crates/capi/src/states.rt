@@ -9,46 +9,49 @@ ghost use Rattle.name_state.specs.State.{null, bitmap, binding, same_state};
 ghost use Rattle.name_state.specs.Paper.{state_of, stored, null_state, owner_of, class_of, class_number};
 ghost use Rattle.name_state_codec.specs.Written.{checked_size, encode_answer, encode_content};
 ghost use Rattle.name_state_codec.specs.Read.{read_state};
-ghost use Rattle.name_state_codec.specs.Paper.{decoded_paper, shown_state};
+ghost use Rattle.encoding.specs.Paper.{read_paper};
+ghost use Rattle.name_state_codec.specs.Paper.{zero_state, shown_state};
 ghost use Rattle.capi.specs.Flat.{write_flat};
-ghost use Rattle.capi.specs.States.{state_flat, owner_flat};
+ghost use Rattle.capi.specs.States.{state_flat, owner_flat, state_or_zero};
 
-use crate::{FlatStop, WriteAnswer, moved_answer, write_answer};
-use name_state::{Class, NameState};
-use name_state_codec::decode::{Decoded, decode};
+use crate::{FlatStop, WriteAnswer};
+use encoding::read::Read;
+use name_state::NameState;
+use name_state_codec::decode::decode;
 use name_state_codec::encode::{encode, encoded_size};
 use names::{blind_bid, hash_name, validate_name};
 use primitives::{Dollarydoos, NameHash, Outpoint};
-use refusal::judgement_number;
+use refusal::{judgement_number, number};
 
 // ---- names
 
 pub fn turgamysk_validate_name(name: &[u8]) -> u8
     ensures { result ≡ pick (valid_name name.now) 0 6 }
 {
-    if validate_name(name) {
-        return 0;
-    }
-    6
+    if validate_name(name) { 0 } else { 6 }
 }
 
 pub fn turgamysk_hash_name(name: &[u8], digest: &mut [u8; 32]) -> u8
     ensures value { result ≡ refused_by (name_hash name.now) }
     ensures digest_after { digest.new ≡ (shown_hash (name_hash name.now)).1 }
 {
-    let hashed = hash_name(name);
-    let hash = hashed.hash;
-    let d = hash.0;
-    *digest = d;
-    let judgement = hashed.judgement;
-    judgement_number(judgement)
+    match hash_name(name) {
+        Ok(hash) => {
+            let bytes = hash.0;
+            *digest = bytes;
+            0
+        }
+        Err(refusal) => {
+            *digest = [0; 32];
+            number(refusal)
+        }
+    }
 }
 
 pub fn turgamysk_blind_bid(value: u64, nonce: &[u8; 32], digest: &mut [u8; 32])
     ensures { digest.new ≡ blind_of value nonce.now }
 {
-    let d = blind_bid(Dollarydoos(value), nonce);
-    *digest = d;
+    *digest = blind_bid(Dollarydoos(value), nonce);
 }
 
 // ---- name states
@@ -69,56 +72,78 @@ pub struct OwnerAnswer {
     pub outpoint: Outpoint,
 }
 
-fn state_answer(decoded: Decoded) -> StateAnswer
-    ensures { result ≡ state_flat (decoded_paper decoded) }
+// What stands for a state where the bytes are none.
+fn zero_state() -> NameState
+    ensures { result ≡ zero_state }
 {
-    let state = decoded.state;
-    let read = decoded.read;
-    StateAnswer {
-        stop: moved_answer(read),
-        state,
+    let mut state = NameState::null(NameHash([0; 32]));
+    state.owner = Outpoint::NONE;
+    state
+}
+
+impl From<Read<NameState>> for StateAnswer {
+    ghost from_gives = { λ read flat. flat ≡ state_flat (state_or_zero (read_paper read)) };
+
+    fn from(read: Read<NameState>) -> StateAnswer {
+        match read {
+            Ok((state, next)) => StateAnswer {
+                stop: FlatStop::from(next),
+                state,
+            },
+            Err(stop) => StateAnswer {
+                stop: FlatStop::from(stop),
+                state: zero_state(),
+            },
+        }
+    }
+}
+
+impl From<Option<Outpoint>> for OwnerAnswer {
+    ghost from_gives = { λ owner flat. flat ≡ owner_flat owner };
+
+    fn from(owner: Option<Outpoint>) -> OwnerAnswer {
+        match owner {
+            Some(outpoint) => OwnerAnswer {
+                held: true,
+                outpoint,
+            },
+            None => OwnerAnswer {
+                held: false,
+                outpoint: Outpoint::NONE,
+            },
+        }
     }
 }
 
 pub fn turgamysk_name_state_decode(key: &[u8; 32], bytes: &[u8]) -> StateAnswer
     ensures { result ≡ state_flat (shown_state (read_state key.now bytes.now)) }
 {
-    let k = *key;
-    state_answer(decode(NameHash(k), bytes))
+    StateAnswer::from(decode(NameHash(*key), bytes))
 }
 
 pub fn turgamysk_name_state_encode(state: NameState, dest: &mut [u8]) -> WriteAnswer
     ensures value { result ≡ write_flat (encode_answer (state_of state) dest.old) }
     ensures dest_after { dest.new ≡ encode_content (state_of state) dest.old }
 {
-    write_answer(encode(state, dest))
+    WriteAnswer::from(encode(state, dest))
 }
 
 pub fn turgamysk_name_state_encoded_size(state: NameState) -> WriteAnswer
     ensures { result ≡ write_flat (checked_size (state_of state)) }
 {
-    write_answer(encoded_size(state))
+    WriteAnswer::from(encoded_size(state))
 }
 
 pub fn turgamysk_name_state_class(state: NameState) -> u8
     ensures { result ≡ class_number (class_of (state_of state)) }
 {
-    match state.class() {
-        Class::Null => 0,
-        Class::Held => 1,
-        Class::Free => 2,
-    }
+    state.class() as u8
 }
 
 pub fn turgamysk_name_state_owner_outpoint(state: NameState) -> OwnerAnswer
     ensures { result ≡ owner_flat (owner_of (state_of state)) }
 {
-    let owner = state.owner_outpoint();
-    let outpoint = owner.outpoint;
-    OwnerAnswer {
-        held: owner.held,
-        outpoint,
-    }
+    OwnerAnswer::from(state.owner_outpoint())
 }
 
 pub fn turgamysk_name_state_bitmap(state: NameState) -> u16
@@ -142,8 +167,7 @@ pub fn turgamysk_name_state_is_null(state: NameState) -> bool
 pub fn turgamysk_name_state_null(key: &[u8; 32]) -> NameState
     ensures { result ≡ stored (null_state key.now []) }
 {
-    let k = *key;
-    NameState::null(NameHash(k))
+    NameState::null(NameHash(*key))
 }
 
 pub fn turgamysk_name_state_same(state: NameState, other: NameState) -> bool

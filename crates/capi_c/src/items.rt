@@ -70,7 +70,7 @@ pub extern "C" fn turgamysk_covenant_find(
 
 #[unsafe(no_mangle)]
 pub extern "C" fn turgamysk_covenant_item<'a>(
-    source: &[u8],
+    source: &'a [u8],
     starts: &'a [usize; 1000],
     lens: &'a [usize; 1000],
     count: usize,
@@ -83,7 +83,7 @@ pub extern "C" fn turgamysk_covenant_item<'a>(
 
 #[unsafe(no_mangle)]
 pub extern "C" fn turgamysk_covenant_item_u8<'a>(
-    source: &[u8],
+    source: &'a [u8],
     starts: &'a [usize; 1000],
     lens: &'a [usize; 1000],
     count: usize,
@@ -96,7 +96,7 @@ pub extern "C" fn turgamysk_covenant_item_u8<'a>(
 
 #[unsafe(no_mangle)]
 pub extern "C" fn turgamysk_covenant_item_u32<'a>(
-    source: &[u8],
+    source: &'a [u8],
     starts: &'a [usize; 1000],
     lens: &'a [usize; 1000],
     count: usize,
@@ -109,7 +109,7 @@ pub extern "C" fn turgamysk_covenant_item_u32<'a>(
 
 #[unsafe(no_mangle)]
 pub extern "C" fn turgamysk_covenant_item_u64<'a>(
-    source: &[u8],
+    source: &'a [u8],
     starts: &'a [usize; 1000],
     lens: &'a [usize; 1000],
     count: usize,
@@ -122,7 +122,7 @@ pub extern "C" fn turgamysk_covenant_item_u64<'a>(
 
 #[unsafe(no_mangle)]
 pub extern "C" fn turgamysk_covenant_item_name_hash<'a>(
-    source: &[u8],
+    source: &'a [u8],
     starts: &'a [usize; 1000],
     lens: &'a [usize; 1000],
     count: usize,
@@ -137,7 +137,7 @@ pub extern "C" fn turgamysk_covenant_item_name_hash<'a>(
 
 #[unsafe(no_mangle)]
 pub extern "C" fn turgamysk_covenant_encoded_size<'a>(
-    source: &[u8],
+    source: &'a [u8],
     starts: &'a [usize; 1000],
     lens: &'a [usize; 1000],
     count: usize,

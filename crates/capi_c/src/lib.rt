@@ -97,7 +97,7 @@ pub extern "C" fn turgamysk_covenant_decode_from(
 pub extern "C" fn turgamysk_covenant_encode<'a>(
     dest: &mut [u8],
     kind: u8,
-    source: &[u8],
+    source: &'a [u8],
     starts: &'a [usize; 1000],
     lens: &'a [usize; 1000],
     count: usize,

@@ -8,11 +8,13 @@ use mathlib.Core.Option.{Option, some, none}
 use lib.ListN.{length, get_or, get_or-eq_default}
 use lib.Dec.{eqb}
 use borrow.Author.Tests.{eq-eqb, ne_eqb, eqb-true, eqb-false}
+use Rattle.std.specs.Prelude.{Result, Ok, Err}
 use Rattle.words.specs.Buffers.{pick}
 use Rattle.words.specs.Sameness.{same}
 use Rattle.words.proofs.Le.{part-long}
 use Rattle.refusal.specs.declared.Refusal.{Refusal}
 use Rattle.refusal.specs.Paper.{number_of, carried}
+use Rattle.encoding.specs.declared.read.Span.{Span}
 use Rattle.covenants.specs.Covenant.{bytes_in}
 use Rattle.covenants.specs.Items.{seek_at}
 use Rattle.covenants.proofs.Parts.{same_more, same_not, same_none}
@@ -42,8 +44,8 @@ module _ (i k width field : ℕ) (xs ys : List (List ℕ)) where
 -- ---- two items that agree, from where they stand
 
 -- item k of the covenant that stands at a place is those bytes: none where it has no such item
-abbrev Item : List ℕ → ℕ → ℕ → ℕ × ℕ → Type 0
-Item s at k part = (part.0 + part.1 ≤ length s) × (get_or (items_from s at) k [] ≡ bytes_in s part)
+abbrev Item : List ℕ → ℕ → ℕ → Span → Type 0
+Item s at k part = (part.start + part.len ≤ length s) × (get_or (items_from s at) k [] ≡ bytes_in s (part.start, part.len))
 
 item-placed : (s : List ℕ) (at k : ℕ) → length s < 2 ^ 64 → Item s at k (placed (seek_at s at k))
 item-placed s at k big = go (seek_at s at k) refl
@@ -52,15 +54,12 @@ item-placed s at k big = go (seek_at s at k) refl
     go (some part) e = (item-inside s at k big e, item-there s at k e)
     go none e = (omega arith, get_or-eq_default (items_from s at) [] (item-few s at k e))
 
-pub items-are : (s : List ℕ) (at : ℕ) {a n b m : ℕ} → (a, n) ≡ placed (seek_at s at 0) → (b, m) ≡ placed (seek_at s at 1) → record { name = a; name_size = n; height = b; height_size = m } ≡ items_at s at
-items-are s at e f = ap₂ (λ (x y : ℕ × ℕ). record { name = x.0; name_size = x.1; height = y.0; height_size = y.1 }) e f
-
 -- what the places of two items say of their agreeing, whatever the number for unequal ones
-abbrev Pairs : List ℕ → List ℕ → ℕ → ℕ → ℕ → ℕ → ℕ → ℕ → Pair → Type 0
-Pairs coins tx i spent made k width field (Pair.At a b w) =
-    (w ≡ width) × (a + width ≤ length coins) × (b + width ≤ length tx)
-    × ((number : ℕ) → agree i k width field number (items_from coins spent) (items_from tx made) ≡ check (same (bytes_in coins (a, width)) (bytes_in tx (b, width))) number (i ∷ []))
-Pairs coins tx i spent made k width field (Pair.Malformed f) =
+abbrev Pairs : List ℕ → List ℕ → ℕ → ℕ → ℕ → ℕ → ℕ → ℕ → Result Pair ℕ → Type 0
+Pairs coins tx i spent made k width field (Ok p) =
+    (p.width ≡ width) × (p.spent + width ≤ length coins) × (p.created + width ≤ length tx)
+    × ((number : ℕ) → agree i k width field number (items_from coins spent) (items_from tx made) ≡ check (same (bytes_in coins (p.spent, width)) (bytes_in tx (p.created, width))) number (i ∷ []))
+Pairs coins tx i spent made k width field (Err f) =
     (number : ℕ) → agree i k width field number (items_from coins spent) (items_from tx made) ≡ breaks 15 (i ∷ f ∷ [])
 
 -- the widths of items 0 and 1
@@ -68,33 +67,33 @@ abbrev width_of : ℕ → ℕ
 width_of k = pick (eqb k 0) 32 4
 
 module _ (coins tx : List ℕ) (i spent made : ℕ) where
-  sized-pairs : (k width field : ℕ) (a b : ℕ × ℕ) → Item coins spent k a → Item tx made k b → Pairs coins tx i spent made k width field (sized_pair width field a b)
-  sized-pairs k width field a b p q = go (eqb a.1 width) (eqb b.1 width) refl refl
+  sized-pairs : (k width field : ℕ) (a b : Span) → Item coins spent k a → Item tx made k b → Pairs coins tx i spent made k width field (sized_pair width field a b)
+  sized-pairs k width field a b p q = go (eqb a.len width) (eqb b.len width) refl refl
     where
-      spent-long : length (get_or (items_from coins spent) k []) ≡ a.1
-      spent-long = ap length p.1 ∙ part-long coins a.0 a.1 p.0
+      spent-long : length (get_or (items_from coins spent) k []) ≡ a.len
+      spent-long = ap length p.1 ∙ part-long coins a.start a.len p.0
 
-      made-long : length (get_or (items_from tx made) k []) ≡ b.1
-      made-long = ap length q.1 ∙ part-long tx b.0 b.1 q.0
+      made-long : length (get_or (items_from tx made) k []) ≡ b.len
+      made-long = ap length q.1 ∙ part-long tx b.start b.len q.0
 
-      spent-is : eqb a.1 width ≡ true → get_or (items_from coins spent) k [] ≡ bytes_in coins (a.0, width)
-      spent-is e = p.1 ∙ ap (λ (n : ℕ). bytes_in coins (a.0, n)) (eqb-true a.1 width e)
+      spent-is : eqb a.len width ≡ true → get_or (items_from coins spent) k [] ≡ bytes_in coins (a.start, width)
+      spent-is e = p.1 ∙ ap (λ (n : ℕ). bytes_in coins (a.start, n)) (eqb-true a.len width e)
 
-      made-is : eqb b.1 width ≡ true → get_or (items_from tx made) k [] ≡ bytes_in tx (b.0, width)
-      made-is e = q.1 ∙ ap (λ (n : ℕ). bytes_in tx (b.0, n)) (eqb-true b.1 width e)
+      made-is : eqb b.len width ≡ true → get_or (items_from tx made) k [] ≡ bytes_in tx (b.start, width)
+      made-is e = q.1 ∙ ap (λ (n : ℕ). bytes_in tx (b.start, n)) (eqb-true b.len width e)
 
-      go : (x y : Bool) → eqb a.1 width ≡ x → eqb b.1 width ≡ y
-          → Pairs coins tx i spent made k width field (pick x (pick y (Pair.At a.0 b.0 width) (Pair.Malformed (field + 1))) (Pair.Malformed field))
-      go false y e f = agree-first i k width field _ _ (λ n. eqb-false a.1 width e (sym spent-long ∙ n))
+      go : (x y : Bool) → eqb a.len width ≡ x → eqb b.len width ≡ y
+          → Pairs coins tx i spent made k width field (pick x (pick y (Ok (record { spent = a.start; created = b.start; width = width })) (Err (field + 1))) (Err field))
+      go false y e f = agree-first i k width field _ _ (λ n. eqb-false a.len width e (sym spent-long ∙ n))
       go true false e f =
-          let n : a.1 ≡ width = eqb-true a.1 width e in
-          agree-second i k width field _ _ (spent-is e) (part-long coins a.0 width (omega (arith, p.0))) (λ n. eqb-false b.1 width f (sym made-long ∙ n))
+          let n : a.len ≡ width = eqb-true a.len width e in
+          agree-second i k width field _ _ (spent-is e) (part-long coins a.start width (omega (arith, p.0))) (λ n. eqb-false b.len width f (sym made-long ∙ n))
       go true true e f =
-          let n : a.1 ≡ width = eqb-true a.1 width e in
-          let m : b.1 ≡ width = eqb-true b.1 width f in
-          let u : a.0 + width ≤ length coins = omega (arith, p.0) in
-          let v : b.0 + width ≤ length tx = omega (arith, q.0) in
-          (refl, u, v, agree-both i k width field _ _ (spent-is e) (part-long coins a.0 width u) (made-is f) (part-long tx b.0 width v))
+          let n : a.len ≡ width = eqb-true a.len width e in
+          let m : b.len ≡ width = eqb-true b.len width f in
+          let u : a.start + width ≤ length coins = omega (arith, p.0) in
+          let v : b.start + width ≤ length tx = omega (arith, q.0) in
+          (refl, u, v, agree-both i k width field _ _ (spent-is e) (part-long coins a.start width u) (made-is f) (part-long tx b.start width v))
 
   items-pairs : (length coins < 2 ^ 64) × (length tx < 2 ^ 64) → (k : ℕ) → k < 2 → Pairs coins tx i spent made k (width_of k) (k * 2 + 1) (items_pair (items_at coins spent) (items_at tx made) k)
   items-pairs big zero h = sized-pairs 0 32 1 _ _ (item-placed coins spent 0 big.0) (item-placed tx made 0 big.1)
@@ -138,29 +137,29 @@ module _ (i : ℕ) (xs ys : List (List ℕ)) where
     left-unequal e f = left-stop k few (ap (λ w. agree i k w (k * 2 + 1) (k + 16) xs ys) (sym wide) ∙ e (k + 16) ∙ ap (λ t. check t (k + 16) (i ∷ [])) f)
 
 -- .. from where the items stand: x and y are those of both covenants, and pair was made of them
-module _ (coins tx : List ℕ) (big : (length coins < 2 ^ 64) × (length tx < 2 ^ 64)) (i spent made k : ℕ) (few : k < 2) {x y : Items} (u : x ≡ items_at coins spent) (v : y ≡ items_at tx made) {pair : Pair} (is : pair ≡ items_pair x y k) where
+module _ (coins tx : List ℕ) (big : (length coins < 2 ^ 64) × (length tx < 2 ^ 64)) (i spent made k : ℕ) (few : k < 2) {x y : Items} (u : x ≡ items_at coins spent) (v : y ≡ items_at tx made) {pair : Result Pair ℕ} (is : pair ≡ items_pair x y k) where
   abbrev Rests : ℕ → Step
   Rests = Left i (items_from coins spent) (items_from tx made)
 
-  said : {pair' : Pair} → pair ≡ pair' → Pairs coins tx i spent made k (width_of k) (k * 2 + 1) pair'
+  said : {pair' : Result Pair ℕ} → pair ≡ pair' → Pairs coins tx i spent made k (width_of k) (k * 2 + 1) pair'
   said e =
       subst (Pairs coins tx i spent made k (width_of k) (k * 2 + 1)) (sym (ap₂ (λ (a b : Items). items_pair a b k) u v) ∙ sym is ∙ e)
       (items-pairs coins tx i spent made big k few)
 
-  pub item-malformed : {field : ℕ} → pair ≡ Pair.Malformed field → Rests k ≡ breaks 15 (i ∷ field ∷ [])
+  pub item-malformed : {field : ℕ} → pair ≡ Err field → Rests k ≡ breaks 15 (i ∷ field ∷ [])
   item-malformed e = left-broken i (items_from coins spent) (items_from tx made) k refl few (said e)
 
-  module _ {a b width : ℕ} (e : pair ≡ Pair.At a b width) where
-    pub items-fit : (a + width ≤ length coins) × (b + width ≤ length tx)
+  module _ {p : Pair} (e : pair ≡ Ok p) where
+    pub items-fit : (p.spent + p.width ≤ length coins) × (p.created + p.width ≤ length tx)
     items-fit = let q = said e in (omega (arith, q.0, q.1), omega (arith, q.0, q.2))
 
-    pub items-unequal : {r : Refusal} → r ≡ pick (eqb k 0) (Refusal.NameHashMismatch i) (Refusal.StartHeightMismatch i) → same (bytes_in coins (a, width)) (bytes_in tx (b, width)) ≡ false
-        → Rests k ≡ breaks (number_of r) (carried r)
+    pub items-unequal : {r : Refusal} → r ≡ pick (eqb k 0) (Refusal.NameHashMismatch i) (Refusal.StartHeightMismatch i)
+        → same (bytes_in coins (p.spent, p.width)) (bytes_in tx (p.created, p.width)) ≡ false → Rests k ≡ breaks (number_of r) (carried r)
     items-unequal {r} n f =
         let q = said e in
         left-unequal i (items_from coins spent) (items_from tx made) k refl few q.3 (rw q.0 at f) ∙ sym (ap (λ (r : Refusal). breaks (number_of r) (carried r)) n ∙ unequal-number i (items_from coins spent) (items_from tx made) k few)
 
-    pub items-equal : same (bytes_in coins (a, width)) (bytes_in tx (b, width)) ≡ true → Rests k ≡ Rests (k + 1)
+    pub items-equal : same (bytes_in coins (p.spent, p.width)) (bytes_in tx (p.created, p.width)) ≡ true → Rests k ≡ Rests (k + 1)
     items-equal f = let q = said e in left-equal i (items_from coins spent) (items_from tx made) k refl few q.3 (rw q.0 at f)
 
 -- where they agree, nothing is left to say but that the input passes

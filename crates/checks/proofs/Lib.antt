@@ -1,4 +1,3 @@
-pub mod Parts
 pub mod Comparing
 pub mod Judging
 pub mod Same

@@ -103,4 +103,4 @@ nth_inside s at k {r} {end} {part} big e f =
     let same : some x.part ≡ some part = sym x.is ∙ f in
     let p : x.part ≡ part = cc in
     omega (arith, x.fits, ap (λ (q : ℕ × ℕ). q.0) p, ap (λ (q : ℕ × ℕ). q.1) p))
-    (λ h. let g = nth-none r.items k h in absurd (let z : ◌≡◌ {A = ℕ} 0 1 = cc in omega arith))
+    (λ h. let g = nth-none r.items k h in cc)

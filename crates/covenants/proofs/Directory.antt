@@ -1,17 +1,16 @@
 -- A directory that is filled item by item: what stands in it, and what is left to read.
-use mathlib.Core.Path.{◌≡◌, refl, ap, ap₂, sym, ◌∙◌}
+use mathlib.Core.Path.{◌≡◌, refl, ap, sym, ◌∙◌}
 use Prim.Native.Nat.{ℕ, suc, ◌+◌, ◌-◌, ◌≤◌, ◌<◌, min}
 use native.Mathlib.Omega.{arith}
-use mathlib.Core.List.{List, [], ◌∷◌, ◌++◌, map, append-nil}
+use mathlib.Core.List.{List, [], ◌∷◌, ◌++◌, map-append, append-nil}
 use lib.ListN.{length, length-append, length-map, set, replicate}
 use lib.Seq.{set-append_seam, append_snoc}
 use Rattle.words.specs.Buffers.{zero_padded}
 use Rattle.refusal.specs.Outcome.{Stand, Outcome, ok, err, then, past, many_at, list_of}
 use Rattle.refusal.proofs.Outcomes.{never}
 use Rattle.covenants.specs.Covenant.{item_at, head_at, Reading, Skimmed, finished, opening, covenant_at, skimmed}
-use Rattle.covenants.specs.Paper.{listed, directory_of, shown_covenant}
+use Rattle.covenants.specs.Paper.{listed, directory_of, decoded}
 use Rattle.covenants.specs.Workers.{starts_of, lens_of, Filling}
-use Rattle.covenants.specs.declared.Covenant.{Covenant}
 use Rattle.covenants.proofs.Moves.{skim-body}
 
 -- a directory of 1,000 with one more number
@@ -25,10 +24,6 @@ listed_more xs v h =
 then_same : {A : Type 0} (o : Outcome A) → then o ok ≡ o
 then_same (ok a p) = refl
 then_same (err k vs p) = refl
-
-map_snoc : {A B : Type 0} (f : A → B) (xs : List A) (x : A) → map f (xs ++ (x ∷ [])) ≡ map f xs ++ (f x ∷ [])
-map_snoc f [] x = refl
-map_snoc f (y ∷ xs) x = ap (λ r. f y ∷ r) (map_snoc f xs x)
 
 module _ (read : ℕ → Outcome (ℕ × ℕ)) where
   -- nothing was read yet
@@ -54,8 +49,8 @@ module _ (read : ℕ → Outcome (ℕ × ℕ)) where
           later = later;
           done = done ++ (part ∷ []);
           long = length-append done (part ∷ []) ∙ omega (arith, r.long);
-          firsts = rw (r.firsts, ← fs, map_snoc) (listed_more (starts_of done) part.0 (omega (arith, r.few)));
-          sizes = rw (r.sizes, ← ss, map_snoc) (listed_more (lens_of done) part.1 (omega (arith, r.few)));
+          firsts = rw (r.firsts, ← fs, map-append) (listed_more (starts_of done) part.0 (omega (arith, r.few)));
+          sizes = rw (r.sizes, ← ss, map-append) (listed_more (lens_of done) part.1 (omega (arith, r.few)));
           rest = go (many_at read (count - (i + 1)) next) ∙ (rw (k, e) at r.rest);
         }
       where
@@ -119,32 +114,28 @@ unfolding directory_of
 tells-refused e zeros = rw e (refl, zeros)
 
 -- a covenant from its head on
-pub tells-kept : (limit : ℕ) (s : List ℕ) (at : ℕ) {allowance : ℕ} → allowance ≡ min limit 1000009 → {head : ℕ × ℕ} {next : ℕ} → opening allowance s at (head_at allowance s at) ≡ ok head next
+pub tells-kept : (limit : ℕ) (s : List ℕ) (at : ℕ) {start allowance : ℕ} → (start ≡ at) × (allowance ≡ min limit 1000009) → {head : ℕ × ℕ} {next : ℕ} → opening allowance s start (head_at allowance s start) ≡ ok head next
     → {said : Outcome Skimmed} {starts lens : List ℕ} → said ≡ skimmed (covenant_at limit s at)
-    → (starts ≡ listed (starts_of (list_of (many_at (item_at allowance at s) head.1 next)))) × (lens ≡ listed (lens_of (list_of (many_at (item_at allowance at s) head.1 next))))
+    → (starts ≡ listed (starts_of (list_of (many_at (item_at allowance start s) head.1 next)))) × (lens ≡ listed (lens_of (list_of (many_at (item_at allowance start s) head.1 next))))
     → Tells (covenant_at limit s at) said starts lens
-tells-kept limit s at {allowance} capped {head} {next} e said both =
-    let items = many_at (item_at allowance at s) head.1 next in
-    (said, rw (skim-body limit s at capped e) (both.0 ∙ starts-kept items head.0 at, both.1 ∙ lens-kept items head.0 at))
+tells-kept limit s at {start} {allowance} made {head} {next} e said both =
+    let items = many_at (item_at allowance start s) head.1 next in
+    (said, rw (skim-body limit s at made e) (both.0 ∙ starts-kept items head.0 start, both.1 ∙ lens-kept items head.0 start))
 
 -- ---- what is said of a covenant, and its directory, tell all of it
 
 module _ {starts lens : List ℕ} where
   pub accepted-shown : (o : Outcome Reading) {kind count used p : ℕ} → ok (kind, count, used) p ≡ skimmed o → starts ≡ (directory_of o).starts → lens ≡ (directory_of o).lens
-      → (ok (kind, count, used) p, record { kind = kind; count = count; starts = starts; lens = lens }) ≡ shown_covenant o
+      → ok (record { kind = kind; count = count; starts = starts; lens = lens }, used) p ≡ decoded o
   unfolding directory_of
   accepted-shown (ok c q) {kind} {count} {used} {p} e f g =
       let said : ◌≡◌ {A = Skimmed} (kind, count, used) (c.kind, length c.items, c.used) = cc in
       let k : kind ≡ c.kind = ap (λ (x : Skimmed). x.0) said in
       let n : count ≡ length c.items = ap (λ (x : Skimmed). x.1) said in
-      ap₂ (λ (x : Outcome Skimmed) (y : Covenant). (x, y)) e (rw (k, n, f, g))
+      let u : used ≡ c.used = ap (λ (x : Skimmed). x.2) said in
+      let z : p ≡ q = cc in
+      rw (k, n, u, z, f, g)
   accepted-shown (err k vs q) e f g = absurd (never refl e)
-
-  pub refused-shown : (o : Outcome Reading) {said : Outcome Skimmed} {k : ℕ} {vs : List ℕ} {p : Stand} → said ≡ err k vs p → said ≡ skimmed o → starts ≡ (directory_of o).starts → lens ≡ (directory_of o).lens
-      → (said, record { kind = 0; count = 0; starts = starts; lens = lens }) ≡ shown_covenant o
-  unfolding directory_of
-  refused-shown (ok c q) h e f g = absurd (never e h)
-  refused-shown (err k vs q) h e f g = ap₂ (λ (x : Outcome Skimmed) (y : Covenant). (x, y)) e (rw (f, g))
 
 -- ---- what is said of a covenant tells of the outcome
 

@@ -12,7 +12,7 @@ use Rattle.words.proofs.Laid.{Laid, over_nothing, both}
 use Rattle.refusal.specs.Outcome.{Wrote, wrote, refused}
 use Rattle.encoding.specs.Wire.{compact, compact_size, varbytes}
 use Rattle.encoding.specs.Joined.{joined}
-use Rattle.encoding.proofs.Compact.{length-compact, put-room, put-none}
+use Rattle.encoding.proofs.Compact.{form1, length-compact, put-room, put-none}
 use Rattle.covenants.specs.Covenant.{bytes_in, contents}
 use Rattle.covenants.specs.Written.{covenant_bytes, parts, Held, table_size, table_bytes, table_answer, table_content}
 use Rattle.covenants.proofs.Checks.{parts_more, parts_none, length-parts}
@@ -30,6 +30,17 @@ pub item-laid : (source : List ℕ) (from n at : ℕ) (d : List ℕ) {d' : List 
 item-laid source from n at d h e =
     let k : from + n - from ≡ n = omega arith in
     e ∙ rw k (laid-over at (varbytes (bytes_in source (from, n))) d (length (varbytes (bytes_in source (from, n)))) refl h)
+
+-- an empty item is its length alone
+pub empty-laid : (source : List ℕ) (from n at : ℕ) (d : List ℕ) {d' : List ℕ} → n ≡ 0 → at + length (varbytes (bytes_in source (from, n))) ≤ length d
+    → d' ≡ laid at (compact 0) d → (at + 1 ≡ at + length (varbytes (bytes_in source (from, n)))) × (d' ≡ over at (varbytes (bytes_in source (from, n))) d)
+unfolding varbytes
+empty-laid source from n at d e h f =
+    let none : varbytes (bytes_in source (from, n)) ≡ compact 0 = ap (λ (k : ℕ). varbytes (take k (drop from source))) e ∙ append-nil (compact 0) in
+    let one : length (compact 0) ≡ 1 = length-compact 0 ∙ (form1 0 (omega arith)).1 in
+    let long = ap length none in
+    let room : at + length (compact 0) ≤ length d = omega arith in
+    (omega arith, f ∙ laid-over at (compact 0) d (length (compact 0)) refl room ∙ ap (λ (bs : List ℕ). over at bs d) (sym none))
 
 -- after i of count items: what was laid, and what is left to lay
 pub record Putting (source starts lens : List ℕ) (first count place : ℕ) (d₀ d : List ℕ) (at i : ℕ) : Type 0 where

@@ -138,38 +138,34 @@ opened-head allowance s at e big = head_read allowance s at big (opened-read all
 
 -- ---- a covenant without its directory, from its head and what its items come to
 
-module _ (limit : ℕ) (s : List ℕ) (at : ℕ) {allowance : ℕ} (capped : allowance ≡ min limit 1000009) where
-  pub skim-refused : {k : ℕ} {vs : List ℕ} {p : Stand} → opening allowance s at (head_at allowance s at) ≡ err k vs p → covenant_at limit s at ≡ err k vs p
-  skim-refused e = covenant-opened limit s at capped ∙ rw e
+module _ (limit : ℕ) (s : List ℕ) (at : ℕ) {start allowance : ℕ} (made : (start ≡ at) × (allowance ≡ min limit 1000009)) where
+  skim-opened : covenant_at limit s at ≡ then (opening allowance s start (head_at allowance s start)) (After allowance s start)
+  skim-opened = rw made.0 (covenant-opened limit s at made.1)
 
-  module _ {head : ℕ × ℕ} {next : ℕ} (e : opening allowance s at (head_at allowance s at) ≡ ok head next) where
+  pub skim-refused : {k : ℕ} {vs : List ℕ} {p : Stand} → opening allowance s start (head_at allowance s start) ≡ err k vs p → covenant_at limit s at ≡ err k vs p
+  skim-refused e = skim-opened ∙ rw e
+
+  module _ {head : ℕ × ℕ} {next : ℕ} (e : opening allowance s start (head_at allowance s start) ≡ ok head next) where
     abbrev Items : Outcome (List (ℕ × ℕ))
-    Items = many_at (item_at allowance at s) head.1 next
+    Items = many_at (item_at allowance start s) head.1 next
 
-    pub skim-body : covenant_at limit s at ≡ then Items (finished head.0 at)
-    skim-body = covenant-opened limit s at capped ∙ rw e
+    pub skim-body : covenant_at limit s at ≡ then Items (finished head.0 start)
+    skim-body = skim-opened ∙ rw e
 
-    skim-stopped : {k : ℕ} {vs : List ℕ} {p : Stand} → past Items ≡ err k vs p → err k vs p ≡ skimmed (covenant_at limit s at)
-    skim-stopped f = rw (skim-body, then-err Items (finished head.0 at) f)
+    pub skim-stopped : {k : ℕ} {vs : List ℕ} {p : Stand} → past Items ≡ err k vs p → err k vs p ≡ skimmed (covenant_at limit s at)
+    skim-stopped f = rw (skim-body, then-err Items (finished head.0 start) f)
 
-    skim-ended : {end : ℕ} → past Items ≡ ok tt end → ok (head.0, head.1, end - at) end ≡ skimmed (covenant_at limit s at)
+    pub skim-ended : {end : ℕ} → past Items ≡ ok tt end → ok (head.0, head.1, end - start) end ≡ skimmed (covenant_at limit s at)
     skim-ended {end} f =
         let r = past-ok Items f in
-        let n = many-long (item_at allowance at s) head.1 next r.1 in
+        let n = many-long (item_at allowance start s) head.1 next r.1 in
         rw (skim-body, r.1, n)
 
-    pub skim-completed : then (past Items) (λ u end. ok (head.0, head.1, end - at) end) ≡ skimmed (covenant_at limit s at)
-    skim-completed = go (past Items) refl
-      where
-        go : (o : Outcome Unit) → past Items ≡ o → then o (λ u end. ok (head.0, head.1, end - at) end) ≡ skimmed (covenant_at limit s at)
-        go (ok u end) f = skim-ended f
-        go (err k vs p) f = skim-stopped f
-
-    pub skim-later : {end : ℕ} → length s < 2 ^ 64 → past Items ≡ ok tt end → at ≤ end
+    pub skim-later : {end : ℕ} → length s < 2 ^ 64 → past Items ≡ ok tt end → start ≤ end
     skim-later {end} big f =
-        let h = opened-head allowance s at e big in
+        let h = opened-head allowance s start e big in
         let r = past-ok Items f in
-        omega (arith, h.later, (items-move allowance at s big head.1 next r.1).0)
+        omega (arith, h.later, (items-move allowance start s big head.1 next r.1).0)
 
 -- ---- a covenant that is the whole input
 

@@ -2,7 +2,6 @@
 use mathlib.Core.Path.{◌≡◌, refl, ◌∙◌}
 use Prim.Native.Nat.{ℕ, ◌+◌, ◌-◌, ◌^◌, ◌≤◌, ◌<◌}
 use native.Mathlib.Omega.{arith}
-use mathlib.Core.Bool.{true, false}
 use mathlib.Core.List.{List}
 use mathlib.Core.Option.{some}
 use lib.ListN.{length, get_or}
@@ -15,10 +14,6 @@ use Rattle.encoding.proofs.Fixed.{byte-read, compact-byte}
 use Rattle.covenants.specs.Covenant.{allowed, item_at, head_at}
 use Rattle.covenants.specs.Workers.{ShortAt, TwoShort}
 use Rattle.covenants.specs.Items.{seek_at}
-
--- where none is there, nothing is asked of it
-pub no_item : {X : Type 0} → false ≡ true → X
-no_item e = absurd (let q : ◌≡◌ {A = ℕ} 0 1 = cc in omega arith)
 
 -- one that fits the bytes and the allowance is read
 pub short-item : (allowance start : ℕ) (s : List ℕ) {end at next : ℕ} → length s < 2 ^ 64 → start ≤ at → ShortAt s end at next → next ≤ length s → next ≤ start + allowance

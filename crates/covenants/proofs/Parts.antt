@@ -39,24 +39,24 @@ module _ (s t : List ℕ) where
 
 pub nth-there : (s : List ℕ) (xs : List (ℕ × ℕ)) (k : ℕ) {part : ℕ × ℕ} → nth xs k ≡ some part → get_or (contents s xs) k [] ≡ bytes_in s part
 unfolding nth
-nth-there s [] k e = absurd (let z : ◌≡◌ {A = ℕ} 0 1 = cc in omega arith)
+nth-there s [] k e = cc
 nth-there s (x ∷ xs) zero {part} e = let p : x ≡ part = cc in ap (bytes_in s) p
 nth-there s (x ∷ xs) (suc k) e = nth-there s xs k e
 
 pub nth-absent : (s : List ℕ) (xs : List (ℕ × ℕ)) (k : ℕ) → nth xs k ≡ none → get_or (contents s xs) k [] ≡ []
 unfolding nth
 nth-absent s [] k e = refl
-nth-absent s (x ∷ xs) zero e = absurd (let z : ◌≡◌ {A = ℕ} 0 1 = cc in omega arith)
+nth-absent s (x ∷ xs) zero e = cc
 nth-absent s (x ∷ xs) (suc k) e = nth-absent s xs k e
 
 pub nth-long : (xs : List (ℕ × ℕ)) (k : ℕ) {part : ℕ × ℕ} → nth xs k ≡ some part → k < length xs
 unfolding nth
-nth-long [] k e = absurd (let z : ◌≡◌ {A = ℕ} 0 1 = cc in omega arith)
+nth-long [] k e = cc
 nth-long (x ∷ xs) zero e = omega arith
 nth-long (x ∷ xs) (suc k) e = let h = nth-long xs k e in omega arith
 
 pub nth-short : (xs : List (ℕ × ℕ)) (k : ℕ) → nth xs k ≡ none → length xs ≤ k
 unfolding nth
 nth-short [] k e = omega arith
-nth-short (x ∷ xs) zero e = absurd (let z : ◌≡◌ {A = ℕ} 0 1 = cc in omega arith)
+nth-short (x ∷ xs) zero e = cc
 nth-short (x ∷ xs) (suc k) e = let h = nth-short xs k e in omega arith

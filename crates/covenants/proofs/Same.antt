@@ -1,77 +1,62 @@
 -- Two answers that say the same in the document's numbers are the same answer: each answer's paper is injective.
 use mathlib.Core.Path.{◌≡◌, refl, ap}
 use Prim.Native.Nat.{ℕ}
-use mathlib.Core.Bool.{Bool}
 use mathlib.Core.List.{List}
 use mathlib.Core.Option.{Option, some, none}
+use Rattle.std.specs.Prelude as code
+use Rattle.std.specs.Prelude.{Result, Ok, Err, Some, None}
 use Rattle.refusal.specs.Outcome.{Outcome, ok, err}
+use Rattle.refusal.specs.declared.Stop.{Stop}
 use Rattle.refusal.proofs.Same.{one-to-one, stop, stop-back}
+use Rattle.encoding.specs.declared.read.Cursor.{Cursor}
+use Rattle.encoding.specs.declared.read.Span.{Span}
 use Rattle.encoding.proofs.Same.{cursor}
+use Rattle.primitives.specs.declared.NameHash.{NameHash}
 use Rattle.covenants.specs.Covenant.{Skimmed}
-use Rattle.covenants.specs.Paper.{covenant_paper, decoded_paper, spot_paper, item_u8_paper, item_u32_paper, item_u64_paper, name_hash_paper}
+use Rattle.covenants.specs.Paper.{covenant_paper, decoded_paper, spot_paper, number_paper, name_hash_paper}
+use Rattle.covenants.specs.declared.Accepted.{Accepted}
 use Rattle.covenants.specs.declared.Covenant.{Covenant}
-use Rattle.covenants.specs.declared.ReadCovenant.{ReadCovenant}
 use Rattle.covenants.specs.declared.decode.Decoded.{Decoded}
-use Rattle.covenants.specs.declared.items.Spot.{Spot}
-use Rattle.covenants.specs.declared.items.ItemU8.{ItemU8}
-use Rattle.covenants.specs.declared.items.ItemU32.{ItemU32}
-use Rattle.covenants.specs.declared.items.ItemU64.{ItemU64}
-use Rattle.covenants.specs.declared.items.ItemNameHash.{ItemNameHash}
 
-covenant-back : Outcome Skimmed → ReadCovenant
-covenant-back (ok said p) = ReadCovenant.Accepted said.0 said.1 said.2 (cursor p)
-covenant-back (err k vs p) = ReadCovenant.Refused (stop k vs p)
+covenant-back : Outcome Skimmed → Result (Accepted × Cursor) Stop
+covenant-back (ok said p) = Ok (record { kind = said.0; count = said.1; used = said.2 }, cursor p)
+covenant-back (err k vs p) = Err (stop k vs p)
 
-covenant-again : (r : ReadCovenant) → covenant-back (covenant_paper r) ≡ r
+pub covenant-same : {r r' : Result (Accepted × Cursor) Stop} → covenant_paper r ≡ covenant_paper r' → r ≡ r'
 unfolding covenant-back
-covenant-again (ReadCovenant.Accepted kind count used next) = refl
-covenant-again (ReadCovenant.Refused s) = ap ReadCovenant.Refused (stop-back s)
+covenant-same = one-to-one covenant_paper covenant-back (elim [ Ok r ↦ refl | Err s ↦ ap Err (stop-back s) ])
 
-pub covenant-same : {r r' : ReadCovenant} → covenant_paper r ≡ covenant_paper r' → r ≡ r'
-covenant-same = one-to-one covenant_paper covenant-back covenant-again
+decoded-back : Outcome (Covenant × ℕ) → Result (Decoded × Cursor) Stop
+decoded-back (ok c p) = Ok (record { covenant = c.0; used = c.1 }, cursor p)
+decoded-back (err k vs p) = Err (stop k vs p)
 
-decoded-back : Outcome Skimmed × Covenant → Decoded
-decoded-back t = record { read = covenant-back t.0; covenant = t.1 }
-
-pub decoded-same : {r r' : Decoded} → decoded_paper r ≡ decoded_paper r' → r ≡ r'
+pub decoded-same : {r r' : Result (Decoded × Cursor) Stop} → decoded_paper r ≡ decoded_paper r' → r ≡ r'
 unfolding decoded-back
-decoded-same = one-to-one decoded_paper decoded-back (λ d. ap (λ r. record { read = r; covenant = d.covenant }) (covenant-again d.read))
+decoded-same = one-to-one decoded_paper decoded-back (elim [ Ok r ↦ refl | Err s ↦ ap Err (stop-back s) ])
 
-spot_back : Option (ℕ × ℕ) → Spot
-spot_back (some part) = Spot.Part part.0 part.1
-spot_back none = Spot.Absent
+spot_back : Option (ℕ × ℕ) → code.Option Span
+spot_back (some part) = Some (record { start = part.0; len = part.1 })
+spot_back none = None
 
-pub spot-same : {r r' : Spot} → spot_paper r ≡ spot_paper r' → r ≡ r'
+pub spot-same : {r r' : code.Option Span} → spot_paper r ≡ spot_paper r' → r ≡ r'
 unfolding spot_back
-spot-same = one-to-one spot_paper spot_back (elim [ Spot.Part start len ↦ refl | Spot.Absent ↦ refl ])
+spot-same = one-to-one spot_paper spot_back (elim [ Some part ↦ refl | None ↦ refl ])
 
-u8-back : Option ℕ → ItemU8
-u8-back (some v) = ItemU8.Value v
-u8-back none = ItemU8.Absent
+-- where a value is told by its number
+module _ {T : Type 0} (number : T → ℕ) (same : (x y : T) → number x ≡ number y → x ≡ y) where
+  pub number-same : {r r' : code.Option T} → number_paper number r ≡ number_paper number r' → r ≡ r'
+  number-same {r} {r'} = go r r'
+    where
+      go : (r r' : code.Option T) → number_paper number r ≡ number_paper number r' → r ≡ r'
+      go (Some x) (Some y) e = let h : number x ≡ number y = cc in ap Some (same x y h)
+      go (Some x) None e = absurd cc
+      go None (Some y) e = absurd cc
+      go None None e = refl
 
-pub item-u8-same : {r r' : ItemU8} → item_u8_paper r ≡ item_u8_paper r' → r ≡ r'
-unfolding u8-back
-item-u8-same = one-to-one item_u8_paper u8-back (elim [ ItemU8.Value v ↦ refl | ItemU8.Absent ↦ refl ])
+hash-back : Option (List ℕ) → code.Option NameHash
+hash-back (some bs) = Some (record { 0 = bs })
+hash-back none = None
 
-u32-back : Option ℕ → ItemU32
-u32-back (some v) = ItemU32.Value v
-u32-back none = ItemU32.Absent
-
-pub item-u32-same : {r r' : ItemU32} → item_u32_paper r ≡ item_u32_paper r' → r ≡ r'
-unfolding u32-back
-item-u32-same = one-to-one item_u32_paper u32-back (elim [ ItemU32.Value v ↦ refl | ItemU32.Absent ↦ refl ])
-
-u64-back : Option ℕ → ItemU64
-u64-back (some v) = ItemU64.Value v
-u64-back none = ItemU64.Absent
-
-pub item-u64-same : {r r' : ItemU64} → item_u64_paper r ≡ item_u64_paper r' → r ≡ r'
-unfolding u64-back
-item-u64-same = one-to-one item_u64_paper u64-back (elim [ ItemU64.Value v ↦ refl | ItemU64.Absent ↦ refl ])
-
-hash-back : Bool × List ℕ → ItemNameHash
-hash-back t = record { found = t.0; hash = record { 0 = t.1 } }
-
-pub item-name-hash-same : {r r' : ItemNameHash} → name_hash_paper r ≡ name_hash_paper r' → r ≡ r'
+pub name-hash-same : {r r' : code.Option NameHash} → name_hash_paper r ≡ name_hash_paper r' → r ≡ r'
 unfolding hash-back
-item-name-hash-same = one-to-one name_hash_paper hash-back (λ r. refl)
+name-hash-same = one-to-one name_hash_paper hash-back (elim [ Some h ↦ refl | None ↦ refl ])

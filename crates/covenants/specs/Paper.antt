@@ -1,27 +1,27 @@
 -- What each answer says, in the document's numbers.
-use Rattle.std.specs.Prelude.{ℕ, Bool, true, false, List, [], map, length, replicate}
+use Rattle.std.specs.Prelude.{ℕ, Bool, true, false, List, [], map, length, replicate, Some, None, Result, Ok, Err}
+use Rattle.std.specs.Prelude as code
 use Rattle.std.proofs.Math.Option.{Option, some, none}
 use Rattle.words.specs.Buffers.{zero_padded}
 use Rattle.refusal.specs.Outcome.{Outcome, ok, err}
 use Rattle.refusal.specs.Paper.{stop_paper}
-use Rattle.covenants.specs.Covenant.{max_items, Reading, Skimmed, skimmed}
+use Rattle.refusal.specs.declared.Stop.{Stop}
+use Rattle.encoding.specs.declared.read.Cursor.{Cursor}
+use Rattle.encoding.specs.declared.read.Span.{Span}
+use Rattle.primitives.specs.declared.NameHash.{NameHash}
+use Rattle.covenants.specs.Covenant.{max_items, Reading, Skimmed}
+use Rattle.covenants.specs.declared.Accepted.{Accepted}
 use Rattle.covenants.specs.declared.Covenant.{Covenant}
-use Rattle.covenants.specs.declared.ReadCovenant.{ReadCovenant}
-use Rattle.covenants.specs.declared.ReadHead.{ReadHead}
+use Rattle.covenants.specs.declared.Head.{Head}
 use Rattle.covenants.specs.declared.decode.Decoded.{Decoded}
-use Rattle.covenants.specs.declared.items.Spot.{Spot}
-use Rattle.covenants.specs.declared.items.ItemU8.{ItemU8}
-use Rattle.covenants.specs.declared.items.ItemU32.{ItemU32}
-use Rattle.covenants.specs.declared.items.ItemU64.{ItemU64}
-use Rattle.covenants.specs.declared.items.ItemNameHash.{ItemNameHash}
 
-abbrev pub covenant_paper : ReadCovenant → Outcome Skimmed
-covenant_paper (ReadCovenant.Accepted kind count used next) = ok (kind, count, used) next.position
-covenant_paper (ReadCovenant.Refused s) = stop_paper s
+abbrev pub covenant_paper : Result (Accepted × Cursor) Stop → Outcome Skimmed
+covenant_paper (Ok r) = ok (r.0.kind, r.0.count, r.0.used) r.1.position
+covenant_paper (Err s) = stop_paper s
 
-abbrev pub head_paper : ReadHead → Outcome (ℕ × ℕ)
-head_paper (ReadHead.Head kind count next) = ok (kind, count) next.position
-head_paper (ReadHead.Refused s) = stop_paper s
+abbrev pub head_paper : Result (Head × Cursor) Stop → Outcome (ℕ × ℕ)
+head_paper (Ok r) = ok (r.0.kind, r.0.count) r.1.position
+head_paper (Err s) = stop_paper s
 
 -- one of the directory's two arrays: the numbers that there are, and zeros
 abbrev pub listed : List ℕ → List ℕ
@@ -38,32 +38,29 @@ directory_of (ok c p) =
     }
 directory_of (err k vs p) = record { kind = 0; count = 0; starts = listed []; lens = listed [] }
 
-abbrev pub decoded_paper : Decoded → Outcome Skimmed × Covenant
-decoded_paper d = (covenant_paper d.read, d.covenant)
+-- a covenant with its directory, and the bytes used up from the allowance
+abbrev pub decoded_paper : Result (Decoded × Cursor) Stop → Outcome (Covenant × ℕ)
+decoded_paper (Ok r) = ok (r.0.covenant, r.0.used) r.1.position
+decoded_paper (Err s) = stop_paper s
 
-abbrev pub shown_covenant : Outcome Reading → Outcome Skimmed × Covenant
-shown_covenant o = (skimmed o, directory_of o)
+abbrev pub decoded : Outcome Reading → Outcome (Covenant × ℕ)
+decoded (ok c p) = ok (directory_of (ok c p), c.used) p
+decoded (err k vs p) = err k vs p
 
 -- ---- single items
 
-abbrev pub spot_paper : Spot → Option (ℕ × ℕ)
-spot_paper (Spot.Part start len) = some (start, len)
-spot_paper Spot.Absent = none
+abbrev pub spot_paper : code.Option Span → Option (ℕ × ℕ)
+spot_paper (Some part) = some (part.start, part.len)
+spot_paper None = none
 
-abbrev pub item_u8_paper : ItemU8 → Option ℕ
-item_u8_paper (ItemU8.Value v) = some v
-item_u8_paper ItemU8.Absent = none
+-- an item as a number of a type
+abbrev pub number_paper : {A : Type 0} → (A → ℕ) → code.Option A → Option ℕ
+number_paper number (Some v) = some (number v)
+number_paper number None = none
 
-abbrev pub item_u32_paper : ItemU32 → Option ℕ
-item_u32_paper (ItemU32.Value v) = some v
-item_u32_paper ItemU32.Absent = none
-
-abbrev pub item_u64_paper : ItemU64 → Option ℕ
-item_u64_paper (ItemU64.Value v) = some v
-item_u64_paper ItemU64.Absent = none
-
-abbrev pub name_hash_paper : ItemNameHash → Bool × List ℕ
-name_hash_paper r = (r.found, r.hash.0)
+abbrev pub name_hash_paper : code.Option NameHash → Option (List ℕ)
+name_hash_paper (Some hash) = some hash.0
+name_hash_paper None = none
 
 -- what is handed out of 32 bytes that may be absent: "Unused parts of an answer are zeros"
 abbrev pub shown_item_hash : Option (List ℕ) → Bool × List ℕ

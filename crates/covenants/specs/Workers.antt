@@ -1,7 +1,10 @@
 -- Words of private functions only, which the contract of no public function has: a directory that is filled item by
 -- item, entries that are there, short items.
-use Rattle.std.specs.Prelude.{◌≡◌, ℕ, ◌+◌, ◌-◌, ◌≤◌, ◌<◌, List, ◌++◌, map, length, get_or}
-use Rattle.refusal.specs.Outcome.{Outcome, ok, then, many_at}
+use Rattle.std.specs.Prelude.{◌≡◌, ℕ, ◌+◌, ◌-◌, ◌≤◌, ◌<◌, List, ◌++◌, map, length, get_or, Result, Ok, Err}
+use Rattle.refusal.specs.Outcome.{Outcome, ok, then, many_at, Wrote, wrote, refused}
+use Rattle.refusal.specs.Paper.{number_of, carried, stop_paper}
+use Rattle.refusal.specs.declared.Refusal.{Refusal}
+use Rattle.refusal.specs.declared.Stop.{Stop}
 use Rattle.covenants.specs.Covenant.{max_items}
 use Rattle.covenants.specs.Paper.{listed}
 
@@ -21,6 +24,16 @@ pub record Filling (read : ℕ → Outcome (ℕ × ℕ)) (start count from : ℕ
   pub firsts : starts ≡ listed (starts_of done)
   pub sizes : lens ≡ listed (lens_of done)
   pub rest : then (many_at read (count - i) at) (λ more end. ok (done ++ more) end) ≡ many_at read count from
+
+-- what is left of an allowance at a place
+abbrev pub left_paper : ℕ → Result ℕ Stop → Outcome ℕ
+left_paper at (Ok left) = ok left at
+left_paper at (Err s) = stop_paper s
+
+-- a test of items that passes, or the item that is refused
+abbrev pub held_paper : Result Unit Refusal → Wrote
+held_paper (Ok u) = wrote 0
+held_paper (Err r) = refused (number_of r) (carried r)
 
 -- so many entries of a list, from the first on, are there
 abbrev pub There : List ℕ → ℕ → ℕ → Type 0

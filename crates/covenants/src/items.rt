@@ -1,319 +1,136 @@
 // Single items: where one stands, from a directory or straight from the bytes, and what it says at a fixed width.
-ghost use Rattle.std.specs.Prelude.{◌≡◌, true, false, ◌≤◌, ◌<◌, length, get_or};
-ghost use Rattle.std.proofs.Math.Option.{none};
-ghost use Rattle.refusal.specs.Outcome.{then, many_at};
-ghost use Rattle.covenants.specs.Covenant.{max_encoded_size, item_at};
-ghost use Rattle.covenants.specs.Workers.{TwoShort};
-ghost use Rattle.covenants.specs.Items.{found, directory_item, seek_at, of_width, number_in};
-ghost use Rattle.covenants.specs.Paper.{spot_paper, item_u8_paper, item_u32_paper, item_u64_paper, name_hash_paper, shown_item_hash};
+ghost use Rattle.std.specs.Prelude.{◌≡◌, Some, IfSome};
+ghost use Rattle.covenants.specs.Items.{directory_item, seek_at, of_width, number_in};
+ghost use Rattle.covenants.specs.Paper.{spot_paper, number_paper, name_hash_paper};
 
-use crate::{Covenant, ReadHead, head, pass_items, read_item};
-use encoding::read::{Cursor, Moved, ReadSpan};
+use crate::{Covenant, Reader};
+use encoding::integer::Integer;
+use encoding::read::{Cursor, Span};
 use primitives::NameHash;
-use words::load::load_u64;
 use words::store::has_room;
 
-// Where an item stands: the Rust's `Option<&[u8]>`.
-#[derive(Clone, Copy)]
-pub enum Spot {
-    Part { start: usize, len: usize },
-    Absent,
-}
-
-#[derive(Clone, Copy)]
-pub enum ItemU8 {
-    Value(u8),
-    Absent,
-}
-
-#[derive(Clone, Copy)]
-pub enum ItemU32 {
-    Value(u32),
-    Absent,
-}
-
-#[derive(Clone, Copy)]
-pub enum ItemU64 {
-    Value(u64),
-    Absent,
-}
-
-// Where the first item stands, and where the second does.
-#[derive(Clone, Copy)]
-pub struct Two {
-    pub first: Spot,
-    pub second: Spot,
-}
-
-// A name hash, zeros where there is none.
-#[derive(Clone, Copy)]
-pub struct ItemNameHash {
-    pub found: bool,
-    pub hash: NameHash,
-}
-
-fn no_hash() -> ItemNameHash
-    ensures { name_hash_paper result ≡ shown_item_hash none }
+// An item as a number: only where it is as wide as one and lies within the bytes.
+pub fn as_number<T: Integer>(item: Option<Span>, s: &[u8]) -> Option<T>
+    ensures { number_paper T.number result ≡ number_in T.WIDTH s.now (spot_paper item) }
 {
-    ItemNameHash {
-        found: false,
-        hash: NameHash([0u8; 32]),
+    let part = item?;
+    if part.len != T::WIDTH {
+        return None;
     }
+    let place = Cursor {
+        position: part.start,
+    };
+    let (value, _) = place.read_le::<T>(s).ok()?;
+    Some(value)
 }
 
-// The number that an item of so many bytes spells, at most eight, if it is as wide and lies within the bytes.
-fn number(item: Spot, s: &[u8], width: usize) -> ItemU64
-    requires { width ≤ 8 }
-    ensures { item_u64_paper result ≡ number_in width s.now (spot_paper item) }
+// The same as a name hash.
+pub fn as_name_hash(item: Option<Span>, s: &[u8]) -> Option<NameHash>
+    ensures { name_hash_paper result ≡ of_width 32 s.now (spot_paper item) }
 {
-    match item {
-        Spot::Part { start, len } => {
-            if len != width {
-                return ItemU64::Absent;
-            }
-            if has_room(s.len(), start, len) {
-                let end = start + len;
-                return ItemU64::Value(load_u64(&s[start..end], 0));
-            }
-            ItemU64::Absent
-        }
-        Spot::Absent => ItemU64::Absent,
+    let part = item?;
+    if part.len != 32 {
+        return None;
     }
+    let place = Cursor {
+        position: part.start,
+    };
+    let (hash, _) = place.read_array::<32>(s).ok()?;
+    Some(NameHash(hash))
 }
 
-// An item answers as a number or a hash only where it is as wide and lies within the bytes.
-impl Spot {
-    pub fn as_u8(self, s: &[u8]) -> ItemU8
-        ensures { item_u8_paper result ≡ number_in 1 s.now (spot_paper self) }
+// A covenant's directory over a source of bytes: where each of its items starts, and how long it is.
+#[derive(Clone, Copy)]
+pub struct Directory<'a> {
+    pub source: &'a [u8],
+    pub starts: &'a [usize; 1000],
+    pub lens: &'a [usize; 1000],
+    pub count: usize,
+}
+
+impl<'a> Directory<'a> {
+    // Where an item stands in the source.
+    pub fn item(self, index: usize) -> Option<Span>
+        ensures { spot_paper result ≡ directory_item self.entry.source.now self.entry.starts.now self.entry.lens.now self.entry.count index }
     {
-        match number(self, s, 1) {
-            ItemU64::Value(v) => ItemU8::Value(v as u8),
-            ItemU64::Absent => ItemU8::Absent,
+        if self.count <= index || Covenant::MAX_ITEMS <= index {
+            return None;
+        }
+        let (start, len) = (self.starts[index], self.lens[index]);
+        if has_room(self.source.len(), start, len) {
+            Some(Span { start, len })
+        } else {
+            None
         }
     }
 
-    pub fn as_u32(self, s: &[u8]) -> ItemU32
-        ensures { item_u32_paper result ≡ number_in 4 s.now (spot_paper self) }
+    pub fn item_number<T: Integer>(self, index: usize) -> Option<T>
+        ensures { number_paper T.number result ≡ number_in T.WIDTH self.entry.source.now (directory_item self.entry.source.now self.entry.starts.now self.entry.lens.now self.entry.count index) }
     {
-        match number(self, s, 4) {
-            ItemU64::Value(v) => ItemU32::Value(v as u32),
-            ItemU64::Absent => ItemU32::Absent,
-        }
+        as_number::<T>(self.item(index), self.source)
     }
 
-    pub fn as_u64(self, s: &[u8]) -> ItemU64
-        ensures { item_u64_paper result ≡ number_in 8 s.now (spot_paper self) }
+    pub fn item_name_hash(self, index: usize) -> Option<NameHash>
+        ensures { name_hash_paper result ≡ of_width 32 self.entry.source.now (directory_item self.entry.source.now self.entry.starts.now self.entry.lens.now self.entry.count index) }
     {
-        number(self, s, 8)
-    }
-
-    pub fn as_name_hash(self, s: &[u8]) -> ItemNameHash
-        ensures { name_hash_paper result ≡ shown_item_hash (of_width 32 s.now (spot_paper self)) }
-    {
-        match self {
-            Spot::Part { start, len } => {
-                if len != 32 {
-                    return no_hash();
-                }
-                let place = Cursor { position: start };
-                let read = place.read_array(s);
-                let moved = read.moved;
-                match moved {
-                    Moved::To(_) => {
-                        let bytes = read.bytes;
-                        ItemNameHash {
-                            found: true,
-                            hash: NameHash(bytes),
-                        }
-                    }
-                    Moved::Refused(_) => no_hash(),
-                }
-            }
-            Spot::Absent => no_hash(),
-        }
-    }
-}
-
-// The item of a directory over `source`.
-pub fn item<'a>(
-    source: &[u8],
-    starts: &'a [usize; 1000],
-    lens: &'a [usize; 1000],
-    count: usize,
-    index: usize,
-) -> Spot
-    ensures { spot_paper result ≡ directory_item source.now starts.now lens.now count index }
-{
-    if count <= index {
-        return Spot::Absent;
-    }
-    if Covenant::MAX_ITEMS <= index {
-        return Spot::Absent;
-    }
-    let start = starts[index];
-    let len = lens[index];
-    if has_room(source.len(), start, len) {
-        return Spot::Part { start, len };
-    }
-    Spot::Absent
-}
-
-pub fn item_u8<'a>(
-    source: &[u8],
-    starts: &'a [usize; 1000],
-    lens: &'a [usize; 1000],
-    count: usize,
-    index: usize,
-) -> ItemU8
-    ensures { item_u8_paper result ≡ number_in 1 source.now (directory_item source.now starts.now lens.now count index) }
-{
-    item(source, starts, lens, count, index).as_u8(source)
-}
-
-pub fn item_u32<'a>(
-    source: &[u8],
-    starts: &'a [usize; 1000],
-    lens: &'a [usize; 1000],
-    count: usize,
-    index: usize,
-) -> ItemU32
-    ensures { item_u32_paper result ≡ number_in 4 source.now (directory_item source.now starts.now lens.now count index) }
-{
-    item(source, starts, lens, count, index).as_u32(source)
-}
-
-pub fn item_u64<'a>(
-    source: &[u8],
-    starts: &'a [usize; 1000],
-    lens: &'a [usize; 1000],
-    count: usize,
-    index: usize,
-) -> ItemU64
-    ensures { item_u64_paper result ≡ number_in 8 source.now (directory_item source.now starts.now lens.now count index) }
-{
-    item(source, starts, lens, count, index).as_u64(source)
-}
-
-pub fn item_name_hash<'a>(
-    source: &[u8],
-    starts: &'a [usize; 1000],
-    lens: &'a [usize; 1000],
-    count: usize,
-    index: usize,
-) -> ItemNameHash
-    ensures { name_hash_paper result ≡ shown_item_hash (of_width 32 source.now (directory_item source.now starts.now lens.now count index)) }
-{
-    item(source, starts, lens, count, index).as_name_hash(source)
-}
-
-// The item with `index` items before it, of a covenant that began at `start` and whose first item stands at `from`.
-fn scan(from: Cursor, s: &[u8], start: usize, index: usize) -> Spot
-    requires { start ≤ from.position }
-    ensures { spot_paper result ≡ found (then (many_at (item_at max_encoded_size start s.now) index from.position) (λ before next. item_at max_encoded_size start s.now next)) }
-{
-    match pass_items(from, s, start, Covenant::MAX_ENCODED_SIZE, index) {
-        Moved::To(next) => match read_item(next, s, start, Covenant::MAX_ENCODED_SIZE) {
-            ReadSpan::Span {
-                start: at,
-                len,
-                next: _,
-            } => Spot::Part { start: at, len },
-            ReadSpan::Refused(_) => Spot::Absent,
-        },
-        Moved::Refused(_) => Spot::Absent,
+        as_name_hash(self.item(index), self.source)
     }
 }
 
 // The item of the covenant that stands at c, found by a scan without a directory.
-pub fn find(c: Cursor, s: &[u8], index: usize) -> Spot
+pub fn find(c: Cursor, s: &[u8], index: usize) -> Option<Span>
     ensures { spot_paper result ≡ seek_at s.now c.position index }
 {
-    match head(c, s, Covenant::MAX_ENCODED_SIZE) {
-        ReadHead::Head {
-            kind: _,
-            count,
-            next,
-        } => {
-            if count <= index {
-                return Spot::Absent;
-            }
-            scan(next, s, c.position, index)
-        }
-        ReadHead::Refused(_) => Spot::Absent,
+    let reader = Reader::new(c, Covenant::MAX_ENCODED_SIZE);
+    let (head, first) = reader.head(s).ok()?;
+    if head.count <= index {
+        return None;
     }
+    let next = reader.pass_items(first, s, index).ok()?;
+    let (item, _) = reader.item(next, s).ok()?;
+    Some(item)
 }
 
-// Items 0 and 1 of the covenant that stands at c, by a scan for each.
-fn two_scans(c: Cursor, s: &[u8]) -> Two
-    ensures { (spot_paper result.first ≡ seek_at s.now c.position 0) × (spot_paper result.second ≡ seek_at s.now c.position 1) }
-{
-    Two {
-        first: find(c, s, 0),
-        second: find(c, s, 1),
-    }
-}
-
-// A byte as a count or a length.
-fn size_at(s: &[u8], at: usize) -> usize
-    requires { at < length s.now }
-    ensures { result ≡ get_or s.now at 0 }
-{
-    s[at] as usize
-}
-
-// Whether a covenant has two items at least, both there, and its count and their lengths are one byte each.
+// Items 0 and 1 of the covenant at `at`, where its count and their lengths are one byte each and both are there.
 // The fast path of `find_two`: it spares both scans where links asks for the name and the start of a covenant. Without
 // it links take 16 % longer (bench/README.md).
-fn two_short(s: &[u8], at: usize) -> bool
-    ensures { result ≡ true → TwoShort s.now at }
+fn two_short(s: &[u8], at: usize) -> Option<(Span, Span)>
+    ensures { IfSome result (λ two. (spot_paper (Some two.0) ≡ seek_at s.now at 0) × (spot_paper (Some two.1) ≡ seek_at s.now at 1)) }
 {
     let length = s.len();
-    if length < 3 {
-        return false;
+    if length < 3 || length - 3 < at {
+        return None;
     }
-    if length - 3 < at {
-        return false;
+    let count = s[at + 1];
+    let first = s[at + 2];
+    if count < 2 || 252 < count || 252 < first {
+        return None;
     }
-    let count = size_at(s, at + 1);
-    if count < 2 {
-        return false;
+    let first = Span {
+        start: at + 3,
+        len: usize::from(first),
+    };
+    let next = first.start + first.len;
+    if length <= next || 252 < s[next] {
+        return None;
     }
-    if 252 < count {
-        return false;
+    let second = Span {
+        start: next + 1,
+        len: usize::from(s[next]),
+    };
+    if second.len < length - next {
+        Some((first, second))
+    } else {
+        None
     }
-    let first = size_at(s, at + 2);
-    if 252 < first {
-        return false;
-    }
-    let next = at + 3 + first;
-    if length <= next {
-        return false;
-    }
-    let second = size_at(s, next);
-    if 252 < second {
-        return false;
-    }
-    second < length - next
 }
 
-// Items 0 and 1 of the covenant that stands at c. Mostly `two_short` holds, and no scan is needed.
-pub fn find_two(c: Cursor, s: &[u8]) -> Two
-    ensures { (spot_paper result.first ≡ seek_at s.now c.position 0) × (spot_paper result.second ≡ seek_at s.now c.position 1) }
+// Items 0 and 1 of the covenant that stands at c. Mostly `two_short` finds them, and no scan is needed.
+pub fn find_two(c: Cursor, s: &[u8]) -> (Option<Span>, Option<Span>)
+    ensures { (spot_paper result.0 ≡ seek_at s.now c.position 0) × (spot_paper result.1 ≡ seek_at s.now c.position 1) }
 {
-    let at = c.position;
-    if two_short(s, at) {
-        let first = size_at(s, at + 2);
-        let next = at + 3 + first;
-        return Two {
-            first: Spot::Part {
-                start: at + 3,
-                len: first,
-            },
-            second: Spot::Part {
-                start: next + 1,
-                len: size_at(s, next),
-            },
-        };
+    match two_short(s, c.position) {
+        Some((first, second)) => (Some(first), Some(second)),
+        None => (find(c, s, 0), find(c, s, 1)),
     }
-    two_scans(c, s)
 }

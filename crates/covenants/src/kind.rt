@@ -29,19 +29,13 @@ pub const REVOKE: u8 = 11;
 pub fn is_name(kind: u8) -> bool
     ensures { result ≡ is_name kind }
 {
-    if kind < CLAIM {
-        return false;
-    }
-    kind <= REVOKE
+    (CLAIM..=REVOKE).contains(&kind)
 }
 
 pub fn is_linked(kind: u8) -> bool
     ensures { result ≡ is_linked kind }
 {
-    if kind < REVEAL {
-        return false;
-    }
-    kind <= REVOKE
+    (REVEAL..=REVOKE).contains(&kind)
 }
 
 pub fn is_unspendable(kind: u8) -> bool

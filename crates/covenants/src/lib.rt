@@ -7,16 +7,17 @@ pub mod kind;
 mod short;
 pub mod write;
 
-ghost use Rattle.std.specs.Prelude.{◌≡◌, ℕ, ◌+◌, ◌-◌, ◌≤◌, min};
-ghost use Rattle.refusal.specs.Outcome.{ok, then, past, many_at};
+ghost use Rattle.std.specs.Prelude.{◌≡◌, ◌-◌, ◌≤◌, min};
+ghost use Rattle.refusal.specs.Outcome.{past, many_at};
 ghost use Rattle.refusal.specs.Paper.{standing};
 ghost use Rattle.refusal.specs.declared.Refusal.{Refusal};
 ghost use Rattle.encoding.specs.Paper.{span_paper, moved_paper};
-ghost use Rattle.covenants.specs.Covenant.{max_encoded_size, item_at, head_at, opening, covenant_at, skimmed};
+ghost use Rattle.covenants.specs.Covenant.{max_encoded_size, allowed, item_at, head_at, opening, covenant_at, skimmed};
 ghost use Rattle.covenants.specs.Paper.{covenant_paper, head_paper};
+ghost use Rattle.covenants.specs.Workers.{left_paper};
 
-use crate::short::short_items;
-use encoding::read::{Cursor, Moved, ReadSize, ReadSpan, ReadU8, cut};
+use crate::short::Reached;
+use encoding::read::{Cursor, Read, Span, cut};
 use refusal::{Refusal, Stop};
 
 // A covenant as a flat directory over lent bytes: where each of at most 1,000 items starts and how long it is, and
@@ -37,43 +38,31 @@ impl Covenant {
     pub const MAX_ENCODED_SIZE: usize = 1_000_009;
 
     // A covenant accepted or refused under an allowance, without its directory.
-    pub fn read(c: Cursor, s: &[u8], limit: usize) -> ReadCovenant
+    pub fn read(c: Cursor, s: &[u8], limit: usize) -> Read<Accepted>
         ensures { covenant_paper result ≡ skimmed (covenant_at limit s.now c.position) }
     {
-        let allowance = capped(limit);
-        match opened(c, s, allowance) {
-            ReadHead::Head { kind, count, next } => {
-                // `&s[..]` hands on the pointer and the length, so that the loop does not wait for a store: with `s`
-                // four items take 1.8 times as long to accept (bench/README.md).
-                let passed = pass_items(next, &s[..], c.position, allowance, count);
-                completed(c.position, kind, count, passed)
-            }
-            ReadHead::Refused(stop) => ReadCovenant::Refused(stop),
-        }
+        let reader = Reader::new(c, limit);
+        let (head, first) = reader.open(s)?;
+        // `&s[..]` hands on the pointer and the length, so that the loop does not wait for a store: with `s` four items
+        // take 1.8 times as long to accept (bench/README.md).
+        let end = reader.pass_items(first, &s[..], head.count)?;
+        Ok((reader.accepted(head, end), end))
     }
 }
 
 // A covenant that was read without its directory: `used` is the bytes used up from the allowance.
-#[derive(Clone, Copy)]
-pub enum ReadCovenant {
-    Accepted {
-        kind: u8,
-        count: usize,
-        used: usize,
-        next: Cursor,
-    },
-    Refused(Stop),
+#[derive(Clone, Copy, PartialEq, Eq)]
+pub struct Accepted {
+    pub kind: u8,
+    pub count: usize,
+    pub used: usize,
 }
 
-// The kind and the count, and the cursor at the first item.
+// What stands before a covenant's items: its kind, and how many there are.
 #[derive(Clone, Copy)]
-pub(crate) enum ReadHead {
-    Head {
-        kind: u8,
-        count: usize,
-        next: Cursor,
-    },
-    Refused(Stop),
+pub(crate) struct Head {
+    pub kind: u8,
+    pub count: usize,
 }
 
 // 5: more bytes than are allowed, be it those consumed, those that a length asks for, those of the whole input, or the
@@ -87,122 +76,108 @@ pub(crate) fn too_large(actual: usize, maximum: usize, position: usize) -> Stop
     }
 }
 
-// An allowance is at most what a covenant can take.
-pub(crate) fn capped(limit: usize) -> usize
-    ensures { result ≡ min limit max_encoded_size }
-{
-    if Covenant::MAX_ENCODED_SIZE < limit {
-        Covenant::MAX_ENCODED_SIZE
-    } else {
-        limit
-    }
+// The reading of one covenant: where it begins, and how many bytes it may take.
+#[derive(Clone, Copy)]
+pub(crate) struct Reader {
+    pub start: usize,
+    pub allowance: usize,
 }
 
-// One item of a covenant that began at `start`.
-pub(crate) fn read_item(c: Cursor, s: &[u8], start: usize, allowance: usize) -> ReadSpan
-    requires { start ≤ c.position }
-    ensures { span_paper result ≡ item_at allowance start s.now c.position }
-{
-    match c.read_compact_usize(s, Covenant::MAX_ITEM_SIZE) {
-        ReadSize::Value(size, next) => {
-            let used = next.position - start;
-            if allowance < used {
-                return ReadSpan::Refused(too_large(used, allowance, next.position));
-            }
-            if allowance - used < size {
-                return ReadSpan::Refused(too_large(used + size, allowance, next.position));
-            }
-            next.read_slice(s, size)
+impl Reader {
+    // An allowance is at most what a covenant can take.
+    pub(crate) fn new(start: Cursor, limit: usize) -> Reader
+        ensures { (result.start ≡ start.position) × (result.allowance ≡ min limit max_encoded_size) }
+    {
+        Reader {
+            start: start.position,
+            allowance: limit.min(Covenant::MAX_ENCODED_SIZE),
         }
-        ReadSize::Refused(stop) => ReadSpan::Refused(stop),
     }
-}
 
-// The kind and the count.
-pub(crate) fn head(c: Cursor, s: &[u8], allowance: usize) -> ReadHead
-    ensures { head_paper result ≡ head_at allowance s.now c.position }
-{
-    let start = c.position;
-    match c.read_u8(s) {
-        ReadU8::Value(kind, after_kind) => {
-            match after_kind.read_compact_usize(s, Covenant::MAX_ITEMS) {
-                ReadSize::Value(count, next) => {
-                    let used = next.position - start;
-                    if allowance < used {
-                        return ReadHead::Refused(too_large(used, allowance, next.position));
-                    }
-                    ReadHead::Head { kind, count, next }
-                }
-                ReadSize::Refused(stop) => ReadHead::Refused(stop),
+    // What is left of the allowance at a cursor.
+    fn left(self, c: Cursor) -> Result<usize, Stop>
+        requires { self.start ≤ c.position }
+        ensures { left_paper c.position result ≡ allowed self.allowance self.start c.position }
+    {
+        let used = c.position - self.start;
+        if self.allowance < used {
+            return Err(too_large(used, self.allowance, c.position));
+        }
+        Ok(self.allowance - used)
+    }
+
+    // The kind and the count.
+    pub(crate) fn head(self, s: &[u8]) -> Read<Head>
+        ensures { head_paper result ≡ head_at self.allowance s.now self.start }
+    {
+        let start = Cursor {
+            position: self.start,
+        };
+        let (kind, after_kind) = start.read_le::<u8>(s)?;
+        let (count, next) = after_kind.read_compact_usize(s, Covenant::MAX_ITEMS)?;
+        self.left(next)?;
+        Ok((Head { kind, count }, next))
+    }
+
+    // The tests before the covenant's first byte, and then its head.
+    pub(crate) fn open(self, s: &[u8]) -> Read<Head>
+        ensures { head_paper result ≡ opening self.allowance s.now self.start (head_at self.allowance s.now self.start) }
+    {
+        let at = self.start;
+        if s.len() < at {
+            return Err(cut(at, at - s.len()));
+        }
+        if self.allowance < 2 {
+            return Err(too_large(2, self.allowance, at));
+        }
+        self.head(s)
+    }
+
+    // One item.
+    pub(crate) fn item(self, c: Cursor, s: &[u8]) -> Read<Span>
+        requires { self.start ≤ c.position }
+        ensures { span_paper result ≡ item_at self.allowance self.start s.now c.position }
+    {
+        let (size, next) = c.read_compact_usize(s, Covenant::MAX_ITEM_SIZE)?;
+        let left = self.left(next)?;
+        if left < size {
+            let used = next.position - self.start;
+            return Err(too_large(used + size, self.allowance, next.position));
+        }
+        next.read_slice(s, size)
+    }
+
+    // So many items are passed.
+    pub(crate) fn pass_items(self, from: Cursor, s: &[u8], count: usize) -> Result<Cursor, Stop>
+        requires { self.start ≤ from.position }
+        ensures { moved_paper result ≡ past (many_at (item_at self.allowance self.start s.now) count from.position) }
+    {
+        let mut reached = Reached {
+            passed: 0,
+            next: from,
+        };
+        loop {
+            let short = self.short_items(s, count, reached);
+            if short.passed == count {
+                return Ok(short.next);
             }
-        }
-        ReadU8::Refused(stop) => ReadHead::Refused(stop),
-    }
-}
-
-// The tests before a covenant's first byte, and then its head.
-pub(crate) fn opened(c: Cursor, s: &[u8], allowance: usize) -> ReadHead
-    ensures { head_paper result ≡ opening allowance s.now c.position (head_at allowance s.now c.position) }
-{
-    let at = c.position;
-    if s.len() < at {
-        return ReadHead::Refused(cut(at, at - s.len()));
-    }
-    if allowance < 2 {
-        return ReadHead::Refused(too_large(2, allowance, at));
-    }
-    head(c, s, allowance)
-}
-
-// A covenant that began at `start`, once its items were passed or one of them refused.
-pub(crate) fn completed(start: usize, kind: u8, count: usize, passed: Moved) -> ReadCovenant
-    requires { (end : ℕ) → moved_paper passed ≡ ok tt end → start ≤ end }
-    ensures { covenant_paper result ≡ then (moved_paper passed) (λ _ end. ok (kind, count, end - start) end) }
-{
-    match passed {
-        Moved::To(end) => {
-            let used = end.position - start;
-            ReadCovenant::Accepted {
-                kind,
-                count,
-                used,
-                next: end,
-            }
-        }
-        Moved::Refused(stop) => ReadCovenant::Refused(stop),
-    }
-}
-
-// So many items of a covenant that began at `start` are passed.
-pub(crate) fn pass_items(
-    from: Cursor,
-    s: &[u8],
-    start: usize,
-    allowance: usize,
-    count: usize,
-) -> Moved
-    requires { start ≤ from.position }
-    ensures { moved_paper result ≡ past (many_at (item_at allowance start s.now) count from.position) }
-{
-    let mut passed: usize = 0;
-    let mut at = from.position;
-    loop {
-        let short = short_items(s, start, allowance, count, passed, at);
-        if count <= short.passed {
-            return Moved::To(Cursor { position: short.at });
-        }
-        match read_item(Cursor { position: short.at }, s, start, allowance) {
-            ReadSpan::Span {
-                start: _,
-                len: _,
+            let (_, next) = self.item(short.next, s)?;
+            reached = Reached {
+                passed: short.passed + 1,
                 next,
-            } => {
-                passed = short.passed + 1;
-                at = next.position;
-            }
-            ReadSpan::Refused(stop) => {
-                return Moved::Refused(stop);
-            }
+            };
+        }
+    }
+
+    // The covenant, once all its items were passed.
+    pub(crate) fn accepted(self, head: Head, end: Cursor) -> Accepted
+        requires { self.start ≤ end.position }
+        ensures { (result.kind ≡ head.kind) × (result.count ≡ head.count) × (result.used ≡ end.position - self.start) }
+    {
+        Accepted {
+            kind: head.kind,
+            count: head.count,
+            used: end.position - self.start,
         }
     }
 }

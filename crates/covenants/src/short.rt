@@ -1,121 +1,103 @@
-// Short items: those whose length is one byte. A fast path, for most items are short: its loops make no `ReadSpan` for
-// an item. They ask only whether it is short and ends in time, and where the next one stands; the first other item is
-// left, with its refusals, to `read_item`.
-ghost use Rattle.std.specs.Prelude.{◌≡◌, true, ℕ, ◌+◌, ◌-◌, ◌≤◌, min, length};
+// Short items: those whose length is one byte. A fast path, for most items are short: its loops make no `Read` for an
+// item. They ask only whether it is short and ends in time, and where the next one stands; the first other item is
+// left, with its refusals, to `item`.
+ghost use Rattle.std.specs.Prelude.{◌≡◌, ℕ, ◌+◌, ◌-◌, ◌≤◌, min, length, IfSome};
 ghost use Rattle.refusal.specs.Outcome.{past, many_at};
 ghost use Rattle.covenants.specs.Covenant.{max_items, item_at};
 ghost use Rattle.covenants.specs.Workers.{Filling, ShortAt};
+
+use crate::Reader;
+use encoding::read::Cursor;
 
 // How far items were passed: how many of them, and where the next one stands.
 #[derive(Clone, Copy)]
 pub(crate) struct Reached {
     pub passed: usize,
-    pub at: usize,
+    pub next: Cursor,
 }
 
-// No item ends later: here the bytes end, or the allowance does.
-fn latest(length: usize, start: usize, allowance: usize) -> usize
-    ensures { result ≡ min length (start + allowance) }
-{
-    if length <= start {
-        return length;
-    }
-    if length - start <= allowance {
-        return length;
-    }
-    start + allowance
-}
-
-// Whether the item at a place is short and ends in time, and then where the next one stands.
-#[derive(Clone, Copy)]
-struct Next {
-    there: bool,
-    at: usize,
-}
-
-// The item at `at`, if it is short and ends by `end`. An empty one is told apart, so that the next place does not wait
-// for its length: without that a covenant of 1,000 empty items takes 3.8 times as long to accept (bench/README.md).
-fn short_item(s: &[u8], end: usize, at: usize) -> Next
+// Where the item at `at` ends, if it is short and ends by `end`. An empty one is told apart, so that the next place
+// does not wait for its length: without that a covenant of 1,000 empty items takes 3.8 times as long to accept
+// (bench/README.md).
+fn short_item(s: &[u8], end: usize, at: usize) -> Option<usize>
     requires { end ≤ length s.now }
-    ensures { result.there ≡ true → ShortAt s.now end at result.at }
+    ensures { IfSome result (λ next. ShortAt s.now end at next) }
 {
     if end <= at {
-        return Next { there: false, at };
+        return None;
     }
     let size = s[at];
     if size == 0 {
-        return Next {
-            there: true,
-            at: at + 1,
-        };
+        return Some(at + 1);
     }
     if 252 < size {
-        return Next { there: false, at };
+        return None;
     }
     let next = at + 1 + size as usize;
-    Next {
-        there: next <= end,
-        at: next,
-    }
+    if next <= end { Some(next) } else { None }
 }
 
-// Short items are passed, up to the first that is not short or does not fit. What is left to pass comes to the same.
-// Without it four items take a third more instructions to accept, and links 12 % more (bench/README.md).
-pub(crate) fn short_items(
-    s: &[u8],
-    start: usize,
-    allowance: usize,
-    count: usize,
-    passed: usize,
-    from: usize,
-) -> Reached
-    requires { (start ≤ from) × (passed ≤ count) }
-    ensures start_le_at { (start ≤ result.at) × (passed ≤ result.passed) × (result.passed ≤ count) }
-    ensures at_value { past (many_at (item_at allowance start s.now) (count - result.passed) result.at) ≡ past (many_at (item_at allowance start s.now) (count - passed) from) }
-{
-    let end = latest(s.len(), start, allowance);
-    let mut i = passed;
-    let mut at = from;
-    while i < count {
-        let next = short_item(s, end, at);
-        if !next.there {
-            break;
+impl Reader {
+    // No item ends later: here the bytes end, or the allowance does.
+    fn latest(self, length: usize) -> usize
+        ensures { result ≡ min length (self.start + self.allowance) }
+    {
+        if length <= self.start || length - self.start <= self.allowance {
+            length
+        } else {
+            self.start + self.allowance
         }
-        at = next.at;
-        i += 1;
     }
-    Reached { passed: i, at }
-}
 
-// The same, each item into its place of a directory that is being filled. It is for directories of many items: without
-// it 1,000 empty ones take 2.8 times as long (bench/README.md).
-pub(crate) fn short_entries(
-    s: &[u8],
-    start: usize,
-    allowance: usize,
-    count: usize,
-    passed: usize,
-    from: usize,
-    starts: &mut [usize; 1000],
-    lens: &mut [usize; 1000],
-) -> Reached
-    requires { (start ≤ from) × (passed ≤ count) × (count ≤ max_items) }
-    ensures start_le_at { (start ≤ result.at) × (passed ≤ result.passed) × (result.passed ≤ count) }
-    ensures by_index { (first : ℕ) → Filling (item_at allowance start s.now) start count first starts.old lens.old from passed → Filling (item_at allowance start s.now) start count first starts.new lens.new result.at result.passed }
-{
-    let end = latest(s.len(), start, allowance);
-    let mut i = passed;
-    let mut at = from;
-    while i < count {
-        let next = short_item(s, end, at);
-        if !next.there {
-            break;
+    // Short items are passed, up to the first that is not short or does not fit. What is left to pass comes to the
+    // same. Without it four items take a third more instructions to accept, and links 12 % more (bench/README.md). With
+    // `for` in place of `while` 1,000 empty items take a third more time.
+    pub(crate) fn short_items(self, s: &[u8], count: usize, from: Reached) -> Reached
+        requires { (self.start ≤ from.next.position) × (from.passed ≤ count) }
+        ensures start_le_at { (self.start ≤ result.next.position) × (from.passed ≤ result.passed) × (result.passed ≤ count) }
+        ensures at_value { past (many_at (item_at self.allowance self.start s.now) (count - result.passed) result.next.position) ≡ past (many_at (item_at self.allowance self.start s.now) (count - from.passed) from.next.position) }
+    {
+        let end = self.latest(s.len());
+        let mut passed = from.passed;
+        let mut at = from.next.position;
+        while passed < count {
+            let Some(next) = short_item(s, end, at) else {
+                break;
+            };
+            at = next;
+            passed += 1;
         }
-        at += 1;
-        starts[i] = at;
-        lens[i] = next.at - at;
-        at = next.at;
-        i += 1;
+        let next = Cursor { position: at };
+        Reached { passed, next }
     }
-    Reached { passed: i, at }
+
+    // The same, each item into its place of a directory that is being filled. It is for directories of many items:
+    // without it 1,000 empty ones take 2.8 times as long (bench/README.md).
+    pub(crate) fn short_entries(
+        self,
+        s: &[u8],
+        count: usize,
+        from: Reached,
+        starts: &mut [usize; 1000],
+        lens: &mut [usize; 1000],
+    ) -> Reached
+        requires { (self.start ≤ from.next.position) × (from.passed ≤ count) × (count ≤ max_items) }
+        ensures start_le_at { (self.start ≤ result.next.position) × (from.passed ≤ result.passed) × (result.passed ≤ count) }
+        ensures by_index { (first : ℕ) → Filling (item_at self.allowance self.start s.now) self.start count first starts.old lens.old from.next.position from.passed → Filling (item_at self.allowance self.start s.now) self.start count first starts.new lens.new result.next.position result.passed }
+    {
+        let end = self.latest(s.len());
+        let mut passed = from.passed;
+        let mut at = from.next.position;
+        while passed < count {
+            let Some(next) = short_item(s, end, at) else {
+                break;
+            };
+            starts[passed] = at + 1;
+            lens[passed] = next - (at + 1);
+            at = next;
+            passed += 1;
+        }
+        let next = Cursor { position: at };
+        Reached { passed, next }
+    }
 }

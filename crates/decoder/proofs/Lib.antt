@@ -1,3 +1,3 @@
-pub mod Chain
 pub mod Theorems
 pub mod One
+mod Step

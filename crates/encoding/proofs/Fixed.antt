@@ -1,24 +1,20 @@
 -- What a number that was read tells: how large it is, and how far the reader went.
-use mathlib.Core.Path.{◌≡◌, ap, ap₂, sym, ◌∙◌}
-use Prim.Native.Nat.{ℕ, ◌+◌, ◌-◌, ◌^◌, ◌≤◌, ◌<◌}
+use mathlib.Core.Path.{◌≡◌, ap, sym, ◌∙◌}
+use Prim.Native.Nat.{ℕ, ◌+◌, ◌^◌, ◌≤◌, ◌<◌}
 use native.Mathlib.Omega.{arith}
 use native.Mathlib.Nat.{le_refl}
 use mathlib.Core.List.{List}
 use mathlib.Core.Bool.{Bool, true, false}
-use lib.ListN.{length, take, drop, get_or, length-drop}
-use lib.Seq.{length-take-le, drop-cons}
+use lib.ListN.{length, take, drop, get_or}
+use lib.Seq.{drop-cons}
 use lib.Dec.{ltb, eqb}
 use borrow.Author.Tests.{lt-ltb, ltb-false}
 use Rattle.words.specs.Words.{le, Bytes}
-use Rattle.words.specs.Buffers.{pick, laid}
+use Rattle.words.specs.Buffers.{pick}
 use Rattle.words.proofs.Le.{le-under}
-use Rattle.words.proofs.Over.{laid-all}
-use Rattle.refusal.specs.Outcome.{Stand, Outcome, ok, err, then}
-use Rattle.refusal.proofs.Outcomes.{then_ok, passed, never}
+use Rattle.refusal.specs.Outcome.{ok, then}
+use Rattle.refusal.proofs.Outcomes.{then_ok, passed}
 use Rattle.encoding.specs.Wire.{slice_at, bytes_at, fixed_at, canonical, compact_at, most, compact_most}
-use Rattle.encoding.specs.Paper.{moved_paper, array_paper, shown_bytes}
-use Rattle.encoding.specs.declared.read.Moved.{Moved}
-use Rattle.encoding.specs.declared.read.ReadArray.{ReadArray}
 use Rattle.encoding.proofs.Slice as slice
 
 -- bytes that were read are those from the start on, and are passed
@@ -91,38 +87,6 @@ most-moves maximum s at {v} {p} big e =
     let same : w.1 ≡ p = cc in
     let same-v : w.0 ≡ v = cc in
     (omega arith, omega arith, omega arith)
-
--- n bytes that were read, laid over all of an array
-pub array-read : (n : ℕ) (s : List ℕ) (at : ℕ) (d : List ℕ) {start len next : ℕ} {bs : List ℕ} → length s < 2 ^ 64 → slice_at n s at ≡ ok (start, len) next → length d ≡ n
-    → bs ≡ laid 0 (take (start + len - start) (drop start s)) d → (ok tt next, bs) ≡ shown_bytes n (bytes_at n s at)
-unfolding bytes_at
-array-read n s at d {start} {len} {next} {bs} big e long f =
-    let part = slice.read n s at big e in
-    let here : start ≡ at = part.start in
-    let size : len ≡ n = part.size in
-    let k : start + len - start ≡ n = omega arith in
-    let fit : n ≤ length (drop start s) = simp length-drop (omega (arith, part.fits)) in
-    let whole : length (take n (drop start s)) ≡ length d = length-take-le n (drop start s) fit ∙ sym long in
-    rw e (ap (λ (l : List ℕ). (ok tt next, l)) (f ∙ rw k (laid-all (take n (drop start s)) d whole)))
-
--- what an answer with an array tells of the bytes that were read
-pub array-found : (n : ℕ) (r : ReadArray) (o : Outcome (List ℕ)) {m : Moved} {next : ℕ} → array_paper r ≡ shown_bytes n o → r.moved ≡ m → moved_paper m ≡ ok tt next → o ≡ ok r.bytes next
-array-found n r (ok bs p) {m} {next} e f g =
-    let h : moved_paper r.moved ≡ ok tt p = ap (λ (t : Outcome Unit × List ℕ). t.0) e in
-    let b : r.bytes ≡ bs = ap (λ (t : Outcome Unit × List ℕ). t.1) e in
-    let k : ok tt p ≡ ok tt next = sym h ∙ ap moved_paper f ∙ g in
-    let q : p ≡ next = cc in
-    ap₂ ok (sym b) q
-array-found n r (err k vs p) e f g = absurd (never (ap moved_paper f ∙ g) (ap (λ (t : Outcome Unit × List ℕ). t.0) e))
-
-pub array-refused : (n : ℕ) (r : ReadArray) (o : Outcome (List ℕ)) {m : Moved} {k : ℕ} {vs : List ℕ} {p : Stand} → array_paper r ≡ shown_bytes n o → r.moved ≡ m → moved_paper m ≡ err k vs p → o ≡ err k vs p
-array-refused n r (ok bs q) e f g = absurd (never (ap (λ (t : Outcome Unit × List ℕ). t.0) e) (ap moved_paper f ∙ g))
-array-refused n r (err k' vs' q) {m} {k} {vs} {p} e f g =
-    let h = sym (ap (λ (t : Outcome Unit × List ℕ). t.0) e) ∙ ap moved_paper f ∙ g in
-    let a : k' ≡ k = cc in
-    let b : vs' ≡ vs = cc in
-    let c : q ≡ p = cc in
-    rw (a, b, c)
 
 -- a byte is the number that it spells
 module _ (s : List ℕ) (at : ℕ) (big : length s < 2 ^ 64) (h : at < length s) where

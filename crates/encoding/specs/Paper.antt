@@ -1,53 +1,32 @@
 -- What each answer says, in the document's numbers.
-use Rattle.std.specs.Prelude.{ℕ, List, replicate}
-use Rattle.refusal.specs.Outcome.{Outcome, ok, err, Wrote, wrote, refused}
-use Rattle.refusal.specs.Paper.{number_of, carried, stop_paper}
-use Rattle.encoding.specs.declared.read.ReadSpan.{ReadSpan}
-use Rattle.encoding.specs.declared.read.ReadU8.{ReadU8}
-use Rattle.encoding.specs.declared.read.ReadU16.{ReadU16}
-use Rattle.encoding.specs.declared.read.ReadU32.{ReadU32}
-use Rattle.encoding.specs.declared.read.ReadU64.{ReadU64}
-use Rattle.encoding.specs.declared.read.ReadSize.{ReadSize}
-use Rattle.encoding.specs.declared.read.Moved.{Moved}
-use Rattle.encoding.specs.declared.read.ReadArray.{ReadArray}
-use Rattle.encoding.specs.declared.put.Put.{Put}
+use Rattle.std.specs.Prelude.{ℕ, List, replicate, Result, Ok, Err}
+use Rattle.refusal.specs.Outcome.{Outcome, ok, err}
+use Rattle.refusal.specs.Paper.{stop_paper}
+use Rattle.refusal.specs.declared.Stop.{Stop}
+use Rattle.encoding.specs.declared.read.Cursor.{Cursor}
+use Rattle.encoding.specs.declared.read.Span.{Span}
 
-abbrev pub span_paper : ReadSpan → Outcome (ℕ × ℕ)
-span_paper (ReadSpan.Span start len next) = ok (start, len) next.position
-span_paper (ReadSpan.Refused s) = stop_paper s
+-- a read of something, which says what it means
+abbrev pub read_as : {A B : Type 0} → (A → B) → Result (A × Cursor) Stop → Outcome B
+read_as mean (Ok r) = ok (mean r.0) r.1.position
+read_as mean (Err s) = stop_paper s
 
-abbrev pub u8_paper : ReadU8 → Outcome ℕ
-u8_paper (ReadU8.Value v next) = ok v next.position
-u8_paper (ReadU8.Refused s) = stop_paper s
+-- a read of something that means itself
+abbrev pub read_paper : {A : Type 0} → Result (A × Cursor) Stop → Outcome A
+read_paper (Ok r) = ok r.0 r.1.position
+read_paper (Err s) = stop_paper s
 
-abbrev pub u16_paper : ReadU16 → Outcome ℕ
-u16_paper (ReadU16.Value v next) = ok v next.position
-u16_paper (ReadU16.Refused s) = stop_paper s
+-- a read of a part: its start and its length
+abbrev pub span_paper : Result (Span × Cursor) Stop → Outcome (ℕ × ℕ)
+span_paper (Ok r) = ok (r.0.start, r.0.len) r.1.position
+span_paper (Err s) = stop_paper s
 
-abbrev pub u32_paper : ReadU32 → Outcome ℕ
-u32_paper (ReadU32.Value v next) = ok v next.position
-u32_paper (ReadU32.Refused s) = stop_paper s
+-- a read of which only the end is told
+abbrev pub moved_paper : Result Cursor Stop → Outcome Unit
+moved_paper (Ok next) = ok tt next.position
+moved_paper (Err s) = stop_paper s
 
-abbrev pub u64_paper : ReadU64 → Outcome ℕ
-u64_paper (ReadU64.Value v next) = ok v next.position
-u64_paper (ReadU64.Refused s) = stop_paper s
-
-abbrev pub size_paper : ReadSize → Outcome ℕ
-size_paper (ReadSize.Value v next) = ok v next.position
-size_paper (ReadSize.Refused s) = stop_paper s
-
-abbrev pub moved_paper : Moved → Outcome Unit
-moved_paper (Moved.To next) = ok tt next.position
-moved_paper (Moved.Refused s) = stop_paper s
-
-abbrev pub array_paper : ReadArray → Outcome Unit × List ℕ
-array_paper r = (moved_paper r.moved, r.bytes)
-
--- what reading n bytes hands out: the bytes beside the outcome; "Unused parts of an answer are zeros"
+-- what reading n bytes hands out over C: the bytes beside the outcome; "Unused parts of an answer are zeros"
 abbrev pub shown_bytes : ℕ → Outcome (List ℕ) → Outcome Unit × List ℕ
 shown_bytes n (ok bs next) = (ok tt next, bs)
 shown_bytes n (err k vs p) = (err k vs p, replicate n 0)
-
-abbrev pub put_paper : Put → Wrote
-put_paper (Put.Written n) = wrote n
-put_paper (Put.Refused r) = refused (number_of r) (carried r)

@@ -3,74 +3,55 @@ ghost use Rattle.std.specs.Prelude.{◌≡◌, List, [], ◌∷◌, ℕ, ◌+◌
 ghost use Rattle.words.specs.Words.{bytes};
 ghost use Rattle.words.specs.Buffers.{pick, over, laid};
 ghost use Rattle.refusal.specs.Outcome.{wrote, refused};
+ghost use Rattle.refusal.specs.Paper.{put_paper};
 ghost use Rattle.encoding.specs.Wire.{compact, compact_size, varbytes, put_answer};
-ghost use Rattle.encoding.specs.Paper.{put_paper};
 
+use crate::integer::Integer;
 use refusal::Refusal;
-use words::store::{has_room, put_le};
-
-// How many bytes were written, or why none was.
-#[derive(Clone, Copy)]
-pub enum Put {
-    Written(usize),
-    Refused(Refusal),
-}
+use words::store::has_room;
 
 // The answer to a write of n bytes that was done, or for which there was no room.
-fn answered(done: bool, n: usize) -> Put
+fn answered(done: bool, n: usize) -> Result<usize, Refusal>
     ensures { put_paper result ≡ pick done (wrote n) (refused 29 (n ∷ [])) }
 {
     if done {
-        Put::Written(n)
+        Ok(n)
     } else {
-        Put::Refused(Refusal::NoRoom { needed: n })
+        Err(Refusal::NoRoom { needed: n })
     }
 }
 
-pub fn put_u8(d: &mut [u8], at: usize, value: u8) -> Put
-    ensures { (put_paper result ≡ put_answer at (bytes 1 value) d.old) × (d.new ≡ laid at (bytes 1 value) d.old) }
+// A number of its type's width: the Rust's `put_u8`, `put_u16_le`, `put_u32_le` and `put_u64_le`.
+pub fn put_le<T: Integer>(d: &mut [u8], at: usize, value: T) -> Result<usize, Refusal>
+    ensures result_value { put_paper result ≡ put_answer at (bytes T.WIDTH (T.number value)) d.old }
+    ensures d_after { d.new ≡ laid at (bytes T.WIDTH (T.number value)) d.old }
 {
-    answered(put_le(d, at, 1, value as u64), 1)
+    answered(
+        words::store::put_le(d, at, T::WIDTH, value.into_u64()),
+        T::WIDTH,
+    )
 }
 
-pub fn put_u16_le(d: &mut [u8], at: usize, value: u16) -> Put
-    ensures { (put_paper result ≡ put_answer at (bytes 2 value) d.old) × (d.new ≡ laid at (bytes 2 value) d.old) }
-{
-    answered(put_le(d, at, 2, value as u64), 2)
-}
-
-pub fn put_u32_le(d: &mut [u8], at: usize, value: u32) -> Put
-    ensures { (put_paper result ≡ put_answer at (bytes 4 value) d.old) × (d.new ≡ laid at (bytes 4 value) d.old) }
-{
-    answered(put_le(d, at, 4, value as u64), 4)
-}
-
-pub fn put_u64_le(d: &mut [u8], at: usize, value: u64) -> Put
-    ensures { (put_paper result ≡ put_answer at (bytes 8 value) d.old) × (d.new ≡ laid at (bytes 8 value) d.old) }
-{
-    answered(put_le(d, at, 8, value), 8)
-}
-
-pub fn put_bytes(d: &mut [u8], at: usize, value: &[u8]) -> Put
+pub fn put_bytes(d: &mut [u8], at: usize, value: &[u8]) -> Result<usize, Refusal>
     ensures { (put_paper result ≡ put_answer at value.now d.old) × (d.new ≡ laid at value.now d.old) }
 {
     answered(words::store::put_bytes(d, at, value), value.len())
 }
 
 // How many bytes a compact size takes.
+#[tactic(auto, unfolding(crate::specs::Wire::compact_size))]
 pub fn compact_size_len(value: u64) -> usize
     ensures { result ≡ compact_size value }
 {
     if value < 253 {
-        return 1;
+        1
+    } else if value < 65536 {
+        3
+    } else if value < 4294967296 {
+        5
+    } else {
+        9
     }
-    if value < 65536 {
-        return 3;
-    }
-    if value < 4294967296 {
-        return 5;
-    }
-    9
 }
 
 // A tag and the n lowest bytes of v.
@@ -79,7 +60,7 @@ fn put_tagged(d: &mut [u8], at: usize, tag: u8, n: usize, v: u64)
     ensures { d.new ≡ over at (tag ∷ bytes n v) d.old }
 {
     d[at] = tag;
-    put_le(d, at + 1, n, v);
+    words::store::put_le(d, at + 1, n, v);
 }
 
 // A compact size in its shortest form, where there is room.
@@ -88,33 +69,29 @@ fn put_compact(d: &mut [u8], at: usize, value: u64)
     ensures { d.new ≡ over at (compact value) d.old }
 {
     if value < 253 {
-        put_le(d, at, 1, value);
-        return;
-    }
-    if value < 65536 {
+        words::store::put_le(d, at, 1, value);
+    } else if value < 65536 {
         put_tagged(d, at, 253, 2, value);
-        return;
-    }
-    if value < 4294967296 {
+    } else if value < 4294967296 {
         put_tagged(d, at, 254, 4, value);
-        return;
+    } else {
+        put_tagged(d, at, 255, 8, value);
     }
-    put_tagged(d, at, 255, 8, value);
 }
 
-pub fn put_compact_size(d: &mut [u8], at: usize, value: u64) -> Put
+pub fn put_compact_size(d: &mut [u8], at: usize, value: u64) -> Result<usize, Refusal>
     ensures { (put_paper result ≡ put_answer at (compact value) d.old) × (d.new ≡ laid at (compact value) d.old) }
 {
     let n = compact_size_len(value);
     if has_room(d.len(), at, n) {
         put_compact(d, at, value);
-        return Put::Written(n);
+        return Ok(n);
     }
-    Put::Refused(Refusal::NoRoom { needed: n })
+    Err(Refusal::NoRoom { needed: n })
 }
 
 // Bytes after their length.
-pub fn put_varbytes(d: &mut [u8], at: usize, value: &[u8]) -> Put
+pub fn put_varbytes(d: &mut [u8], at: usize, value: &[u8]) -> Result<usize, Refusal>
     ensures { (put_paper result ≡ put_answer at (varbytes value.now) d.old) × (d.new ≡ laid at (varbytes value.now) d.old) }
 {
     let prefix = compact_size_len(value.len() as u64);
@@ -122,7 +99,7 @@ pub fn put_varbytes(d: &mut [u8], at: usize, value: &[u8]) -> Put
     if has_room(d.len(), at, n) {
         put_compact(d, at, value.len() as u64);
         words::store::put_bytes(d, at + prefix, value);
-        return Put::Written(n);
+        return Ok(n);
     }
-    Put::Refused(Refusal::NoRoom { needed: n })
+    Err(Refusal::NoRoom { needed: n })
 }

@@ -1,75 +1,30 @@
-// Reading: a cursor by value over lent bytes, and an enum for each kind of answer.
+// Reading: a cursor by value over lent bytes.
 ghost use Rattle.std.specs.Prelude.{◌≡◌, ℕ, ◌+◌, ◌-◌, ◌≤◌, ◌<◌, length, take, drop, get_or};
 ghost use Rattle.words.specs.Words.{le};
 ghost use Rattle.refusal.specs.Outcome.{then};
 ghost use Rattle.refusal.specs.Paper.{standing};
 ghost use Rattle.refusal.specs.declared.Refusal.{Refusal};
 ghost use Rattle.encoding.specs.Wire.{remaining_at, slice_at, bytes_at, fixed_at, canonical, compact_at, compact_most, bounded_at, varbytes_at, finish_at};
-ghost use Rattle.encoding.specs.Paper.{span_paper, u8_paper, u16_paper, u32_paper, u64_paper, size_paper, moved_paper, array_paper, shown_bytes};
+ghost use Rattle.encoding.specs.Paper.{read_as, read_paper, span_paper, moved_paper};
 
+use crate::integer::Integer;
 use refusal::{Refusal, Stop};
-use words::load::wide;
 
 // A place in the lent bytes: the position of the Rust's `Decoder`, whose slice is a parameter here.
-#[derive(Clone, Copy)]
+#[derive(Clone, Copy, PartialEq, Eq)]
 pub struct Cursor {
     pub position: usize,
 }
 
 // A part of the lent bytes, by its start and length.
-#[derive(Clone, Copy)]
-pub enum ReadSpan {
-    Span {
-        start: usize,
-        len: usize,
-        next: Cursor,
-    },
-    Refused(Stop),
+#[derive(Clone, Copy, PartialEq, Eq)]
+pub struct Span {
+    pub start: usize,
+    pub len: usize,
 }
 
-#[derive(Clone, Copy)]
-pub enum ReadU8 {
-    Value(u8, Cursor),
-    Refused(Stop),
-}
-
-#[derive(Clone, Copy)]
-pub enum ReadU16 {
-    Value(u16, Cursor),
-    Refused(Stop),
-}
-
-#[derive(Clone, Copy)]
-pub enum ReadU32 {
-    Value(u32, Cursor),
-    Refused(Stop),
-}
-
-#[derive(Clone, Copy)]
-pub enum ReadU64 {
-    Value(u64, Cursor),
-    Refused(Stop),
-}
-
-#[derive(Clone, Copy)]
-pub enum ReadSize {
-    Value(usize, Cursor),
-    Refused(Stop),
-}
-
-// A read whose value is nothing, or stands beside this.
-#[derive(Clone, Copy)]
-pub enum Moved {
-    To(Cursor),
-    Refused(Stop),
-}
-
-// Thirty-two bytes, zeros where they were refused.
-#[derive(Clone, Copy)]
-pub struct ReadArray {
-    pub moved: Moved,
-    pub bytes: [u8; 32],
-}
+// What a read comes to: what was read, and the cursor after it; or the refusal, and where the reader then stands.
+pub type Read<T> = Result<(T, Cursor), Stop>;
 
 // 1: so many bytes are missing to what begins at `at`.
 pub fn cut(at: usize, needed: usize) -> Stop
@@ -125,137 +80,92 @@ fn le_at(s: &[u8], at: usize, n: usize) -> u64
     ensures { result ≡ le (take n (drop at s.now)) }
 {
     let mut v: u64 = 0;
-    let mut i = n;
-    while 0 < i {
-        i -= 1;
-        v = v * 256 + wide(s[at + i]);
+    for i in (0..n).rev() {
+        v = v * 256 + u64::from(s[at + i]);
     }
     v
 }
 
 // A number in a longer form than it needs is refused.
-fn shortest(read: ReadU64, width: u8, least: u64) -> ReadU64
-    ensures { u64_paper result ≡ then (u64_paper read) (canonical width least) }
+fn shortest(read: Read<u64>, width: u8, least: u64) -> Read<u64>
+    ensures { read_paper result ≡ then (read_paper read) (canonical width least) }
 {
-    match read {
-        ReadU64::Value(v, next) => {
-            if v < least {
-                ReadU64::Refused(longer_form(width, next.position))
-            } else {
-                ReadU64::Value(v, next)
-            }
-        }
-        ReadU64::Refused(stop) => ReadU64::Refused(stop),
+    let (v, next) = read?;
+    if v < least {
+        return Err(longer_form(width, next.position));
     }
+    Ok((v, next))
 }
 
 impl Cursor {
     pub fn remaining(self, s: &[u8]) -> usize
         ensures { result ≡ remaining_at s.now self.position }
     {
-        let at = self.position;
-        if s.len() < at {
-            return 0;
-        }
-        s.len() - at
+        s.len().saturating_sub(self.position)
     }
 
     // The next `length` bytes.
-    pub fn read_slice(self, s: &[u8], length: usize) -> ReadSpan
+    pub fn read_slice(self, s: &[u8], length: usize) -> Read<Span>
         ensures { span_paper result ≡ slice_at length s.now self.position }
     {
         let at = self.position;
         if s.len() < at {
-            return ReadSpan::Refused(beyond(at, s.len()));
+            return Err(beyond(at, s.len()));
         }
         let left = s.len() - at;
         if length <= left {
-            return ReadSpan::Span {
+            let part = Span {
                 start: at,
                 len: length,
-                next: Cursor {
+            };
+            return Ok((
+                part,
+                Cursor {
                     position: at + length,
                 },
-            };
+            ));
         }
-        if length <= 0xffff_ffff_ffff_ffff - at {
-            return ReadSpan::Refused(cut(at, length - left));
+        if length <= usize::MAX - at {
+            return Err(cut(at, length - left));
         }
-        ReadSpan::Refused(too_long(0xffff_ffff_ffff_ffff, left, at))
+        Err(too_long(usize::MAX, left, at))
     }
 
     // The number that the next n bytes spell.
-    fn fixed(self, s: &[u8], n: usize) -> ReadU64
+    fn fixed(self, s: &[u8], n: usize) -> Read<u64>
         requires { n ≤ 8 }
-        ensures { u64_paper result ≡ fixed_at n s.now self.position }
+        ensures { read_paper result ≡ fixed_at n s.now self.position }
     {
-        match self.read_slice(s, n) {
-            ReadSpan::Span {
-                start,
-                len: _,
-                next,
-            } => ReadU64::Value(le_at(s, start, n), next),
-            ReadSpan::Refused(stop) => ReadU64::Refused(stop),
-        }
+        let (part, next) = self.read_slice(s, n)?;
+        Ok((le_at(s, part.start, n), next))
     }
 
-    pub fn read_u8(self, s: &[u8]) -> ReadU8
-        ensures { u8_paper result ≡ fixed_at 1 s.now self.position }
+    // A number of its type's width: the Rust's `read_u8`, `read_u16_le`, `read_u32_le` and `read_u64_le`.
+    pub fn read_le<T: Integer>(self, s: &[u8]) -> Read<T>
+        ensures { read_as T.number result ≡ fixed_at T.WIDTH s.now self.position }
     {
-        match self.fixed(s, 1) {
-            ReadU64::Value(v, next) => ReadU8::Value(v as u8, next),
-            ReadU64::Refused(stop) => ReadU8::Refused(stop),
-        }
-    }
-
-    pub fn read_u16_le(self, s: &[u8]) -> ReadU16
-        ensures { u16_paper result ≡ fixed_at 2 s.now self.position }
-    {
-        match self.fixed(s, 2) {
-            ReadU64::Value(v, next) => ReadU16::Value(v as u16, next),
-            ReadU64::Refused(stop) => ReadU16::Refused(stop),
-        }
-    }
-
-    pub fn read_u32_le(self, s: &[u8]) -> ReadU32
-        ensures { u32_paper result ≡ fixed_at 4 s.now self.position }
-    {
-        match self.fixed(s, 4) {
-            ReadU64::Value(v, next) => ReadU32::Value(v as u32, next),
-            ReadU64::Refused(stop) => ReadU32::Refused(stop),
-        }
-    }
-
-    pub fn read_u64_le(self, s: &[u8]) -> ReadU64
-        ensures { u64_paper result ≡ fixed_at 8 s.now self.position }
-    {
-        self.fixed(s, 8)
+        let (v, next) = self.fixed(s, T::WIDTH)?;
+        Ok((T::from_u64(v), next))
     }
 
     // A compact size whose first byte is the tag of a longer form, or is not there.
-    fn longer_compact(self, s: &[u8]) -> ReadU64
+    fn longer_compact(self, s: &[u8]) -> Read<u64>
         requires { self.position < length s.now → 252 < get_or s.now self.position 0 }
-        ensures { u64_paper result ≡ compact_at s.now self.position }
+        ensures { read_paper result ≡ compact_at s.now self.position }
     {
-        match self.read_u8(s) {
-            ReadU8::Value(tag, next) => {
-                if tag == 253 {
-                    return shortest(next.fixed(s, 2), 16, 253);
-                }
-                if tag == 254 {
-                    return shortest(next.fixed(s, 4), 32, 65536);
-                }
-                shortest(next.fixed(s, 8), 64, 4294967296)
-            }
-            ReadU8::Refused(stop) => ReadU64::Refused(stop),
+        let (tag, next) = self.read_le::<u8>(s)?;
+        match tag {
+            253 => shortest(next.fixed(s, 2), 16, 253),
+            254 => shortest(next.fixed(s, 4), 32, 65536),
+            _ => shortest(next.fixed(s, 8), 64, 4294967296),
         }
     }
 
     // Most sizes are one byte: this way is short enough to be compiled into its callers. The rest, with the tag once
     // more, is a function of two calls: one of a single call would be compiled into this. Without the split four items
     // take 9 % longer to accept (bench/README.md).
-    pub fn read_compact_size(self, s: &[u8]) -> ReadU64
-        ensures { u64_paper result ≡ compact_at s.now self.position }
+    pub fn read_compact_size(self, s: &[u8]) -> Read<u64>
+        ensures { read_paper result ≡ compact_at s.now self.position }
     {
         let at = self.position;
         if s.len() <= at {
@@ -266,82 +176,64 @@ impl Cursor {
             return self.longer_compact(s);
         }
         let position = at + 1;
-        ReadU64::Value(wide(tag), Cursor { position })
+        Ok((u64::from(tag), Cursor { position }))
     }
 
     // A compact size of at most `maximum`.
-    pub fn read_compact_usize(self, s: &[u8], maximum: usize) -> ReadSize
-        ensures { size_paper result ≡ compact_most maximum s.now self.position }
+    pub fn read_compact_usize(self, s: &[u8], maximum: usize) -> Read<usize>
+        ensures { read_paper result ≡ compact_most maximum s.now self.position }
     {
-        match self.read_compact_size(s) {
-            ReadU64::Value(v, next) => {
-                let value = v as usize;
-                if maximum < value {
-                    ReadSize::Refused(too_long(value, maximum, next.position))
-                } else {
-                    ReadSize::Value(value, next)
-                }
-            }
-            ReadU64::Refused(stop) => ReadSize::Refused(stop),
+        let (v, next) = self.read_compact_size(s)?;
+        let value = v as usize;
+        if maximum < value {
+            return Err(too_long(value, maximum, next.position));
         }
+        Ok((value, next))
     }
 
     // The next `length` bytes, of which there may be at most `maximum`: the Rust's `read_bounded_vec`.
-    pub fn read_bounded(self, s: &[u8], length: usize, maximum: usize) -> ReadSpan
+    pub fn read_bounded(self, s: &[u8], length: usize, maximum: usize) -> Read<Span>
         ensures { span_paper result ≡ bounded_at length maximum s.now self.position }
     {
         let at = self.position;
         if s.len() < at {
-            return ReadSpan::Refused(beyond(at, s.len()));
+            return Err(beyond(at, s.len()));
         }
         if maximum < length {
-            return ReadSpan::Refused(too_long(length, maximum, at));
+            return Err(too_long(length, maximum, at));
         }
         self.read_slice(s, length)
     }
 
     // A compact size of at most `maximum`, and as many bytes.
-    pub fn read_varbytes(self, s: &[u8], maximum: usize) -> ReadSpan
+    pub fn read_varbytes(self, s: &[u8], maximum: usize) -> Read<Span>
         ensures { span_paper result ≡ varbytes_at maximum s.now self.position }
     {
-        match self.read_compact_usize(s, maximum) {
-            ReadSize::Value(n, next) => next.read_bounded(s, n, maximum),
-            ReadSize::Refused(stop) => ReadSpan::Refused(stop),
-        }
+        let (n, next) = self.read_compact_usize(s, maximum)?;
+        next.read_bounded(s, n, maximum)
     }
 
-    // The next 32 bytes: the Rust's `read_array::<32>`.
-    pub fn read_array(self, s: &[u8]) -> ReadArray
-        ensures { array_paper result ≡ shown_bytes 32 (bytes_at 32 s.now self.position) }
+    // The next N bytes themselves.
+    pub fn read_array<const N: usize>(self, s: &[u8]) -> Read<[u8; N]>
+        ensures { read_paper result ≡ bytes_at N s.now self.position }
     {
-        let mut bytes = [0u8; 32];
-        match self.read_slice(s, 32) {
-            ReadSpan::Span { start, len, next } => {
-                words::store::put_bytes(&mut bytes, 0, &s[start..start + len]);
-                ReadArray {
-                    moved: Moved::To(next),
-                    bytes,
-                }
-            }
-            ReadSpan::Refused(stop) => ReadArray {
-                moved: Moved::Refused(stop),
-                bytes,
-            },
-        }
+        let (part, next) = self.read_slice(s, N)?;
+        let mut bytes = [0u8; N];
+        bytes.copy_from_slice(&s[part.start..part.start + N]);
+        Ok((bytes, next))
     }
 
     // Nothing is left.
-    pub fn finish(self, s: &[u8]) -> Moved
+    pub fn finish(self, s: &[u8]) -> Result<Cursor, Stop>
         ensures { moved_paper result ≡ finish_at s.now self.position }
     {
         let at = self.position;
         if s.len() < at {
-            return Moved::Refused(beyond(at, s.len()));
+            return Err(beyond(at, s.len()));
         }
-        if at == s.len() {
-            Moved::To(self)
-        } else {
-            Moved::Refused(trailing(s.len() - at, at))
+        if at < s.len() {
+            return Err(trailing(s.len() - at, at));
         }
+        Ok(self)
     }
 }

@@ -1,7 +1,6 @@
 // The link report: what the rules say of `tx.sheet` and `coins.sheet`, in one line.
 #![tactic(auto)]
 
-use encoding::put::Put;
 use files::load;
 use reports::link::link_line;
 use std::io;
@@ -9,9 +8,9 @@ use std::io;
 fn report(rt: &impl Print, tx: &[u8], coins: &[u8]) -> io::Result<()> {
     let mut line = [0u8; 89];
     match link_line(tx, coins, &mut line) {
-        Put::Written(m) => rt.write_all(&line[..m]),
+        Ok(m) => rt.write_all(&line[..m]),
         // Never: every line fits (LinkLineFits of reports).
-        Put::Refused(_) => Ok(()),
+        Err(_) => Ok(()),
     }
 }
 

@@ -1,4 +1,3 @@
-pub mod Alike
 pub mod Judging
 pub mod Turning
 pub mod Unpaired

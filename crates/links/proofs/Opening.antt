@@ -1,5 +1,5 @@
 -- What two sheets that were judged hold, by their counts.
-use mathlib.Core.Path.{◌≡◌, ap, sym, subst, ◌∙◌}
+use mathlib.Core.Path.{◌≡◌, ap, sym, ◌∙◌}
 use Prim.Native.Nat.{ℕ, ◌+◌, ◌-◌, ◌*◌}
 use native.Mathlib.Omega.{arith}
 use mathlib.Core.List.{List, [], ◌∷◌}
@@ -13,7 +13,7 @@ use Rattle.primitives.specs.Outpoints.{shown_outpoint, is_null}
 use Rattle.sheets.specs.Sheet.{Output, Coin, coin_of, input_at, coin_at, whole, refused, transaction_counts, coin_counts, pair_of, pair_counts}
 use Rattle.sheets.specs.declared.Place.{Place}
 use Rattle.sheets.proofs.Whole.{transaction-is, coins-are, pair-whole, pair-refused}
-use Rattle.sheets.proofs.Counts.{transaction-small, coins-small, inputs_end, outputs-end, outputs-at, transaction-not, coins-not, transaction-holds, coins-hold}
+use Rattle.sheets.proofs.Counted.{transaction-small, coins-small, inputs_end, outputs-end, outputs-at, transaction-not, coins-not, transaction-holds, coins-hold}
 use Rattle.links.specs.Rules.{Verdict, broken, rule, links_from, coinbase, links_of}
 use Rattle.links.specs.Verify.{without_outpoints, answer_of, stopped, verify_of}
 use Rattle.links.specs.Workers.{inputs_in, outputs_in, coins_in, Sheets}
@@ -108,6 +108,3 @@ module _ (tx coins : List ℕ) (inputs outputs n : ℕ) (s : Sheets tx coins inp
     counts-agree h =
         ap (λ (m : ℕ). links_from rule 0 0 0 (inputs_in tx inputs) (coins_in coins m) (outputs_in tx outputs (4 + inputs * 36))) h
         ∙ count_same (inputs_in tx inputs) (outputs_in tx outputs (4 + inputs * 36)) (coins_in coins n) e (inputs_long ∙ h ∙ sym coins-long)
-
-  pub paired : inputs ≡ n → Sheets tx coins inputs outputs inputs
-  paired h = subst (Sheets tx coins inputs outputs) (sym h) s

@@ -6,6 +6,7 @@ use mathlib.Core.List.{List, [], ◌∷◌}
 use mathlib.Core.Bool.{true, false}
 use lib.ListN.{length}
 use lib.Dec.{eqb}
+use Rattle.std.specs.Prelude.{Result, Ok, Err}
 use Rattle.words.specs.Buffers.{pick}
 use Rattle.words.specs.Sameness.{same}
 use Rattle.refusal.specs.declared.Refusal.{Refusal}
@@ -23,29 +24,29 @@ use Rattle.links.specs.declared.rows.Turn.{Turn}
 
 module _ (tx coins : List ℕ) (i : ℕ) (t : Turn) (k : ℕ) {whole : Turned} (r : Turning tx coins i t k whole) where
   abbrev Ends : Step → Turned
-  Ends names = turned (and_then names (afterwards t.rest i (output_of coins t.spent) (output_of tx t.made))) (is_name t.spent.kind) t.next_coin t.next_output
+  Ends names = turned (and_then names (afterwards t.rest i (output_of coins t.spent) (output_of tx t.made))) (is_name t.spent.kind) t.next.coin t.next.output
 
   -- no item is left
   pub finished : {step : Step} → 2 ≤ k → step ≡ afterwards t.rest i (output_of coins t.spent) (output_of tx t.made)
-      → turned step (is_name t.spent.kind) t.next_coin t.next_output ≡ whole
+      → turned step (is_name t.spent.kind) t.next.coin t.next.output ≡ whole
   finished h e =
-      ap (λ (s : Step). turned s (is_name t.spent.kind) t.next_coin t.next_output) e
+      ap (λ (s : Step). turned s (is_name t.spent.kind) t.next.coin t.next.output) e
       ∙ sym (ap Ends (left_end i (items_from coins t.spent.covenant) (items_from tx t.made.covenant) k h))
       ∙ r.rests
 
-  module _ (big : (length coins < 2 ^ 64) × (length tx < 2 ^ 64)) (h : k < 2) {pair : Pair} (is : pair ≡ items_pair t.spent_items t.made_items k) where
-    pub malformed : {field : ℕ} → pair ≡ Pair.Malformed field → stops 15 (i ∷ field ∷ []) ≡ whole
+  module _ (big : (length coins < 2 ^ 64) × (length tx < 2 ^ 64)) (h : k < 2) {pair : Result Pair ℕ} (is : pair ≡ items_pair t.spent_items t.made_items k) where
+    pub malformed : {field : ℕ} → pair ≡ Err field → stops 15 (i ∷ field ∷ []) ≡ whole
     malformed e = sym (ap Ends (item-malformed coins tx big i t.spent.covenant t.made.covenant k h (r.found h).0 (r.found h).1 is e)) ∙ r.rests
 
-    module _ {a b width : ℕ} (e : pair ≡ Pair.At a b width) where
-      pub fitting : (a + width ≤ length coins) × (b + width ≤ length tx)
+    module _ {p : Pair} (e : pair ≡ Ok p) where
+      pub fitting : (p.spent + p.width ≤ length coins) × (p.created + p.width ≤ length tx)
       fitting = items-fit coins tx big i t.spent.covenant t.made.covenant k h (r.found h).0 (r.found h).1 is e
 
-      pub unequal : {n : Refusal} → n ≡ pick (eqb k 0) (Refusal.NameHashMismatch i) (Refusal.StartHeightMismatch i) → same (bytes_in coins (a, width)) (bytes_in tx (b, width)) ≡ false
+      pub unequal : {n : Refusal} → n ≡ pick (eqb k 0) (Refusal.NameHashMismatch i) (Refusal.StartHeightMismatch i) → same (bytes_in coins (p.spent, p.width)) (bytes_in tx (p.created, p.width)) ≡ false
           → stops (number_of n) (carried n) ≡ whole
       unequal n f = sym (ap Ends (items-unequal coins tx big i t.spent.covenant t.made.covenant k h (r.found h).0 (r.found h).1 is e n f)) ∙ r.rests
 
-      pub equal : same (bytes_in coins (a, width)) (bytes_in tx (b, width)) ≡ true → Turning tx coins i t (k + 1) whole
+      pub equal : same (bytes_in coins (p.spent, p.width)) (bytes_in tx (p.created, p.width)) ≡ true → Turning tx coins i t (k + 1) whole
       equal f =
           record {
             bound = omega arith;

@@ -2,7 +2,6 @@
 use mathlib.Core.Path.{◌≡◌, ap, sym, ◌∙◌}
 use Prim.Native.Nat.{ℕ, suc, ◌+◌, ◌-◌, ◌≤◌, ◌<◌}
 use native.Mathlib.Omega.{arith}
-use native.Mathlib.Nat.{add-zero}
 use mathlib.Core.List.{List, [], ◌∷◌, map}
 use mathlib.Core.Bool.{true, false}
 use Rattle.refusal.specs.Outcome.{Stand, ok, err, many_at}
@@ -12,7 +11,6 @@ use Rattle.covenants.specs.Kind.{is_linked}
 use Rattle.sheets.specs.Sheet.{Output, output_of, place_at}
 use Rattle.sheets.specs.declared.Place.{Place}
 use Rattle.links.specs.Rules.{Verdict, broken, unpaired}
-use Rattle.links.specs.Workers.{Outputs, outputs_in}
 
 -- after k of them: what is left gives the whole
 pub record Trailing (tx : List ℕ) (n left : ℕ) (v : Verdict) (at k : ℕ) (whole : Verdict) : Type 0 where
@@ -21,11 +19,6 @@ pub record Trailing (tx : List ℕ) (n left : ℕ) (v : Verdict) (at k : ℕ) (w
   pub end : ℕ
   pub reads : many_at (place_at 0 tx) (left - k) at ≡ ok ps end
   pub rests : unpaired (n + k) v (map (output_of tx) ps) ≡ whole
-
-pub begin : (tx : List ℕ) (n left : ℕ) (v : Verdict) (at : ℕ) → Outputs tx left at → Trailing tx n left v at 0 (unpaired n v (outputs_in tx left at))
-begin tx n left v at l =
-    let z : left - 0 ≡ left = omega arith in
-    record { bound = omega arith; ps = l.0; end = l.1; reads = rw z l.2; rests = rw (add-zero, l.2) }
 
 -- one output, on lists
 module _ (at : ℕ) (v : Verdict) (o : Output) (os : List Output) where

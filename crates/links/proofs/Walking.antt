@@ -4,8 +4,14 @@ use Prim.Native.Nat.{ℕ, zero, suc, ◌+◌, ◌-◌, ◌*◌, ◌^◌, ◌≤�
 use native.Mathlib.Omega.{arith}
 use native.Mathlib.Numerals.{add-one}
 use mathlib.Core.List.{List, [], ◌∷◌, map}
-use mathlib.Core.Bool.{Bool, true, false}
+use mathlib.Core.Bool.{Bool, true, false, not, ◌&&◌}
+use lib.Dec.{eqb}
+use lib.Pointwise.{pointwise}
+use Rattle.std.proofs.lemmas.Bool.{not-false, not-true}
+use Rattle.primitives.proofs.Equal.{equal}
 use lib.ListN.{length}
+use Rattle.std.specs.Prelude.{None}
+use Rattle.std.specs.Int.{from_bool}
 use Rattle.refusal.specs.Outcome.{Outcome, ok, many_at}
 use Rattle.refusal.proofs.Many.{Next, many-next, many-none}
 use Rattle.primitives.specs.declared.Outpoint.{Outpoint}
@@ -17,12 +23,11 @@ use Rattle.sheets.proofs.Reading.{CoinRead, coin-read, input-moves}
 use Rattle.links.specs.Rules.{rule, one, partner_in, others, Verdict, linked, broken, differs, unpaired, links_from}
 use Rattle.checks.specs.Checks.{Step, passes, breaks}
 use Rattle.checks.specs.Paper.{partner_of}
-use Rattle.links.specs.Workers.{inputs_in, outputs_in, coins_in, Outputs, Sheets, made_at, partner_at, moves, stops, turned, turn_at}
-use Rattle.checks.specs.declared.Partner.{Partner}
+use Rattle.links.specs.Workers.{outputs_in, Outputs, made_at, partner_at, moves, stops, turned, turn_at}
 
 -- ---- partners and outpoints
 
-pub partner-none : (tx : List ℕ) (at : ℕ) {left : ℕ} → left ≡ 0 → record { partner = Partner.Missing; next = at } ≡ partner_at left tx at
+pub partner-none : (tx : List ℕ) (at : ℕ) {left : ℕ} → left ≡ 0 → record { partner = None; next = at } ≡ partner_at left tx at
 unfolding partner_at
 partner-none tx at e = rw e
 
@@ -35,6 +40,18 @@ partner-is tx at {left} h e =
 -- the outpoint that is handed out is the one that was read
 pub outpoint-is : (s : List ℕ) (at : ℕ) {x y : Outpoint} {next : ℕ} → x ≡ (shown_outpoint (input_at s at)).1 → input_at s at ≡ ok y next → x ≡ y
 outpoint-is s at e f = e ∙ ap (λ (o : Outcome Outpoint). (shown_outpoint o).1) f
+
+-- what the code's `!=` of outpoints says
+module _ (x y : Outpoint) {differ : Bool} (is : differ ≡ not (pointwise eqb x.transaction_hash.0 y.transaction_hash.0 && eqb x.index y.index)) where
+  pub same : differ ≡ false → same_outpoint x y ≡ true
+  same e = sym (equal x y) ∙ not-false _ (sym is ∙ e)
+
+  pub other : differ ≡ true → same_outpoint x y ≡ false
+  other e = sym (equal x y) ∙ not-true _ (sym is ∙ e)
+
+pub counted : (b : Bool) → from_bool b ≡ one b
+counted true = refl
+counted false = refl
 
 one-small : (b : Bool) → one b ≤ 1
 one-small true = omega arith
@@ -115,42 +132,19 @@ pub record Walking (tx coins : List ℕ) (n outputs i outs names a b p : ℕ) (w
   pub coins-left : many_at (coin_at 1 coins) (n - i) b ≡ ok cs ends.2
   pub rests : links_from rule i outs names xs (map (coin_of coins) cs) (map (output_of tx) ps) ≡ whole
 
-pub begin : (tx coins : List ℕ) (n outputs : ℕ) → Sheets tx coins n outputs n
-    → Walking tx coins n outputs 0 0 0 4 4 (4 + n * 36) (links_from rule 0 0 0 (inputs_in tx n) (coins_in coins n) (outputs_in tx outputs (4 + n * 36)))
-begin tx coins n outputs s =
-    let z : n - 0 ≡ n = omega arith in
-    let y : outputs - 0 ≡ outputs = omega arith in
-    record {
-      bound = omega arith;
-      few = s.few;
-      long = s.long;
-      little = (omega arith, omega arith);
-      xs = s.ins;
-      ps = s.outs;
-      cs = s.cs;
-      ends = s.ends;
-      inputs = rw z s.inputs_read;
-      outputs-left = rw y s.outputs_read;
-      coins-left = rw z s.coins_read;
-      rests = rw (s.inputs_read, s.outputs_read, s.coins_read);
-    }
-
 module _ (tx coins : List ℕ) (n outputs : ℕ) {i outs names a b p : ℕ} {whole : Verdict} (r : Walking tx coins n outputs i outs names a b p whole) where
   -- all inputs passed: only outputs are left
   module _ (h : n ≤ i) where
-    pub leftover : {left : ℕ} → left ≡ outputs - n → Outputs tx left p
-    leftover {left} e =
-        let k : outputs - i ≡ left = omega (arith, r.bound) in
-        (r.ps, r.ends.1, (rw k at r.outputs-left))
+    pub leftover : Outputs tx (outputs - i) p
+    leftover = (r.ps, r.ends.1, r.outputs-left)
 
-    pub ended : unpaired n (linked n outs names) (outputs_in tx (outputs - n) p) ≡ whole
+    pub ended : unpaired n (linked n outs names) (outputs_in tx (outputs - i) p) ≡ whole
     unfolding links_from
     ended =
         let k : i ≡ n = omega (arith, r.bound) in
         let z : n - i ≡ 0 = omega arith in
         let none : r.xs ≡ [] = many-none (input_at tx) {n = n - i} a z r.inputs in
-        let o : many_at (place_at 0 tx) (outputs - n) p ≡ ok r.ps r.ends.1 = (rw k at r.outputs-left) in
-        rw o (rw (none, k) at r.rests)
+        rw r.outputs-left (rw (none, k) at r.rests)
 
   module _ (h : i < n) where
     first-input : Next (input_at tx) (n - (i + 1)) a r.xs r.ends.0

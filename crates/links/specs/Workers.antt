@@ -1,8 +1,9 @@
 -- Words of the private functions, which judge one input and walk over two sheets that were judged, and of their proofs;
 -- no outsider reads them.
-use Rattle.std.specs.Prelude.{◌≡◌, ℕ, zero, suc, ◌+◌, ◌*◌, ◌≤◌, ◌<◌, ◌^◌, List, [], ◌∷◌, map, true, false, Bool, length}
+use Rattle.std.specs.Prelude.{◌≡◌, ℕ, zero, suc, ◌+◌, ◌*◌, ◌≤◌, ◌<◌, ◌^◌, List, [], ◌∷◌, map, true, false, Bool, length, Option, Some, None, Result, Ok, Err}
 use Rattle.std.proofs.Math.Option.{none}
 use Rattle.refusal.specs.Paper.{number_of, carried}
+use Rattle.refusal.specs.declared.Refusal.{Refusal}
 use Rattle.covenants.specs.Kind.{is_name}
 use Rattle.sheets.specs.declared.Place.{Place}
 use Rattle.sheets.specs.Sheet.{Output, output_of, Coin, items_from, coin_of, input_at, place_at, gap, coin_at}
@@ -12,13 +13,10 @@ use Rattle.primitives.specs.declared.Outpoint.{Outpoint}
 use Rattle.checks.specs.Paper.{partner_of}
 use Rattle.checks.specs.Items.{items_at}
 use Rattle.checks.specs.Workers.{Left}
-use Rattle.checks.specs.declared.Partner.{Partner}
 use Rattle.links.specs.Rules.{committed, row_rule, rule}
 use Rattle.links.specs.declared.rows.Rest.{Rest}
-use Rattle.links.specs.declared.rows.Gate.{Gate}
 use Rattle.links.specs.declared.rows.TableRow.{TableRow}
 use Rattle.links.specs.declared.rows.Turn.{Turn}
-use Rattle.links.specs.declared.rows.Onward.{Onward}
 use Rattle.links.specs.declared.walk.Beside.{Beside}
 
 -- ---- a row: what comes before name and start, and what after
@@ -34,18 +32,22 @@ afterwards Rest.Destination i spent made = destined i spent made
 abbrev pub named_then : Rest → ℕ → Output → Output → Step
 named_then rest i spent made = and_then (name_and_start i spent.items made.items) (afterwards rest i spent made)
 
-abbrev pub gated : Gate → ℕ → Output → Output → Step
-gated (Gate.Breaks r) i spent made = breaks (number_of r) (carried r)
-gated Gate.Passes i spent made = passes false
-gated (Gate.Names rest) i spent made = named_then rest i spent made
+abbrev pub gated : Result (Option Rest) Refusal → ℕ → Output → Output → Step
+gated (Err r) i spent made = breaks (number_of r) (carried r)
+gated (Ok None) i spent made = passes false
+gated (Ok (Some rest)) i spent made = named_then rest i spent made
 
 -- a gate says what a row says, wherever both outputs stand
-abbrev pub Gates : (ℕ → Output → Output → Step) → ℕ → Place → Place → Gate → Type 0
+abbrev pub Gates : (ℕ → Output → Output → Step) → ℕ → Place → Place → Result (Option Rest) Refusal → Type 0
 Gates row i spent made gate = (coins tx : List ℕ) → gated gate i (output_of coins spent) (output_of tx made) ≡ row i (output_of coins spent) (output_of tx made)
 
--- what a row says of any output of a kind that has no partner
-abbrev pub Alone : ℕ → ℕ → TableRow → Step → Type 0
-Alone i kind row step = (spent : Output) → spent.kind ≡ kind → step ≡ row_rule row i spent none
+-- what a row says of any output of a kind that has no partner: where it passes, no output is linked
+abbrev pub alone : Result Unit Refusal → Step
+alone (Ok u) = passes false
+alone (Err r) = breaks (number_of r) (carried r)
+
+abbrev pub Alone : ℕ → ℕ → TableRow → Result Unit Refusal → Type 0
+Alone i kind row r = (spent : Output) → spent.kind ≡ kind → alone r ≡ row_rule row i spent none
 
 -- ---- what two sheets hold, by counts and positions
 
@@ -81,11 +83,11 @@ pub record Sheets (tx coins : List ℕ) (inputs outputs n : ℕ) : Type 0 where
 
 -- its partner, where outputs are left, and where the next output stands
 abbrev pub made_at : ℕ → Outcome Place → Beside
-made_at at (ok made next) = record { partner = Partner.Output made; next = next }
-made_at at (err k vs p) = record { partner = Partner.Missing; next = at }
+made_at at (ok made next) = record { partner = Some made; next = next }
+made_at at (err k vs p) = record { partner = None; next = at }
 
 unfoldable pub partner_at : ℕ → List ℕ → ℕ → Beside
-partner_at zero tx at = record { partner = Partner.Missing; next = at }
+partner_at zero tx at = record { partner = None; next = at }
 partner_at (suc left) tx at = made_at at (place_at 0 tx at)
 
 -- it passes: whether it links an output and spends a name, and where the next coin and the next output stand; or it
@@ -111,11 +113,11 @@ pub record Turning (tx coins : List ℕ) (i : ℕ) (t : Turn) (k : ℕ) (whole :
   pub bound : k ≤ 2
   pub found : k < 2 → (t.spent_items ≡ items_at coins t.spent.covenant) × (t.made_items ≡ items_at tx t.made.covenant)
   pub rests : turned (and_then (Left i (items_from coins t.spent.covenant) (items_from tx t.made.covenant) k) (afterwards t.rest i (output_of coins t.spent) (output_of tx t.made)))
-      (is_name t.spent.kind) t.next_coin t.next_output ≡ whole
+      (is_name t.spent.kind) t.next.coin t.next.output ≡ whole
 
-abbrev pub Ahead : List ℕ → List ℕ → ℕ → Turned → Onward → Type 0
-Ahead tx coins i whole (Onward.Goes t) = Turning tx coins i t t.first whole
-Ahead tx coins i whole (Onward.Stop r) = stops (number_of r) (carried r) ≡ whole
+abbrev pub Ahead : List ℕ → List ℕ → ℕ → Turned → Result Turn Refusal → Type 0
+Ahead tx coins i whole (Ok t) = Turning tx coins i t t.first whole
+Ahead tx coins i whole (Err r) = stops (number_of r) (carried r) ≡ whole
 
 -- one that asks for no name and start; one that does; one without a partner
 abbrev pub FreeTurn : Place → ℕ → ℕ → Turn → Type 0
@@ -125,5 +127,5 @@ abbrev pub NamedTurn : List ℕ → List ℕ → Place → Place → Rest → �
 NamedTurn tx coins spent made rest coin output t =
     (i : ℕ) → Turning tx coins i t t.first (turned (named_then rest i (output_of coins spent) (output_of tx made)) (is_name spent.kind) coin output)
 
-abbrev pub LoneTurn : ℕ → Place → ℕ → ℕ → Onward → Type 0
+abbrev pub LoneTurn : ℕ → Place → ℕ → ℕ → Result Turn Refusal → Type 0
 LoneTurn i spent coin output r = (tx coins : List ℕ) → Ahead tx coins i (turned (rule i (output_of coins spent) none) (is_name spent.kind) coin output) r

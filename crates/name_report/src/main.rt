@@ -1,7 +1,6 @@
 // The name report: what `state.bin` says, in one line.
 #![tactic(auto)]
 
-use encoding::put::Put;
 use files::load;
 use reports::name::name_line;
 use std::io;
@@ -9,9 +8,9 @@ use std::io;
 fn report(rt: &impl Print, file: &[u8]) -> io::Result<()> {
     let mut line = [0u8; 64];
     match name_line(file, &mut line) {
-        Put::Written(m) => rt.write_all(&line[..m]),
+        Ok(m) => rt.write_all(&line[..m]),
         // Never: every line fits (NameLineFits of reports).
-        Put::Refused(_) => Ok(()),
+        Err(_) => Ok(()),
     }
 }
 

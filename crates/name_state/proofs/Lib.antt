@@ -1,5 +1,5 @@
 pub mod Text
-pub mod Alike
+pub mod Sets
 pub mod Bound
 pub mod Theorems
 pub mod One

@@ -3,14 +3,15 @@ use mathlib.Core.Path.{◌≡◌}
 use Prim.Native.Nat.{ℕ}
 use mathlib.Core.Bool.{Bool}
 use mathlib.Core.List.{List, []}
+use Rattle.std.specs.Prelude.{Option, Result}
 use Rattle.words.proofs.One.{one}
 use Rattle.name_state.specs.State.{null, bitmap, binding, same_state}
 use Rattle.refusal.specs.Paper.{judgement_paper}
-use Rattle.refusal.specs.declared.Judgement.{Judgement}
+use Rattle.refusal.specs.declared.Refusal.{Refusal}
 use Rattle.refusal.proofs.Same.{judgement-same}
 use Rattle.name_state.specs.Paper.{state_of, stored, null_state, owner_of, class_of, heights_of, amounts_of, times_of}
 use Rattle.name_state.specs.declared.NameState.{NameState}
-use Rattle.name_state.specs.declared.Owner.{Owner}
+use Rattle.primitives.specs.declared.Outpoint.{Outpoint}
 use Rattle.name_state.specs.declared.Class.{Class}
 use Rattle.name_state.specs.declared.Heights.{Heights}
 use Rattle.name_state.specs.declared.Amounts.{Amounts}
@@ -32,7 +33,7 @@ module _ (p : NameState) where
   pub is-null-one : {r r' : Bool} → r ≡ null (state_of p) → r' ≡ null (state_of p) → r ≡ r'
   is-null-one = one
 
-  pub owner-outpoint-one : {r r' : Owner} → r ≡ owner_of (state_of p) → r' ≡ owner_of (state_of p) → r ≡ r'
+  pub owner-outpoint-one : {r r' : Option Outpoint} → r ≡ owner_of (state_of p) → r' ≡ owner_of (state_of p) → r ≡ r'
   owner-outpoint-one = one
 
   pub class-one : {r r' : Class} → r ≡ class_of (state_of p) → r' ≡ class_of (state_of p) → r ≡ r'
@@ -41,7 +42,7 @@ module _ (p : NameState) where
   pub bitmap-one : {r r' : ℕ} → r ≡ bitmap (state_of p) → r' ≡ bitmap (state_of p) → r ≡ r'
   bitmap-one = one
 
-  pub validate-key-binding-one : {r r' : Judgement} → judgement_paper r ≡ binding (state_of p) → judgement_paper r' ≡ binding (state_of p) → r ≡ r'
+  pub validate-key-binding-one : {r r' : Result Unit Refusal} → judgement_paper r ≡ binding (state_of p) → judgement_paper r' ≡ binding (state_of p) → r ≡ r'
   validate-key-binding-one e f = judgement-same (one e f)
 
   pub same-one : (q : NameState) {r r' : Bool} → r ≡ same_state (state_of p) (state_of q) → r' ≡ same_state (state_of p) (state_of q) → r ≡ r'

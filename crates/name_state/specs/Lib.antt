@@ -1,4 +1,3 @@
 pub mod State
 pub mod Paper
 pub mod Theorems
-pub mod Workers

@@ -1,12 +1,11 @@
 -- What a `NameState` holds, and what the answers say.
-use Rattle.std.specs.Prelude.{ℕ, ◌-◌, List, [], ◌++◌, true, false, length, take, replicate}
+use Rattle.std.specs.Prelude.{ℕ, ◌-◌, List, [], ◌++◌, false, length, take, replicate, Option, Some, None}
 use Rattle.words.specs.Buffers.{pick, zero_padded}
 use Rattle.primitives.specs.declared.Outpoint.{Outpoint}
-use Rattle.primitives.specs.Outpoints.{outpoint, null_outpoint, is_null}
+use Rattle.primitives.specs.Outpoints.{null_outpoint, is_null}
 use Rattle.names.specs.Name.{max_name_size}
 use Rattle.name_state.specs.State.{State, max_resource_size, null}
 use Rattle.name_state.specs.declared.NameState.{NameState}
-use Rattle.name_state.specs.declared.Owner.{Owner}
 use Rattle.name_state.specs.declared.Class.{Class}
 use Rattle.name_state.specs.declared.Heights.{Heights}
 use Rattle.name_state.specs.declared.Amounts.{Amounts}
@@ -86,9 +85,9 @@ bare key name owner =
 abbrev pub null_state : List ℕ → List ℕ → State
 null_state key name = bare key name null_outpoint
 
--- the owner, where there is one; "Unused parts of an answer are zeros"
-abbrev pub owner_of : State → Owner
-owner_of t = pick (is_null t.owner) (record { held = false; outpoint = outpoint (replicate 32 0) 0 }) (record { held = true; outpoint = t.owner })
+-- the owner, where there is one
+abbrev pub owner_of : State → Option Outpoint
+owner_of t = pick (is_null t.owner) None (Some t.owner)
 
 -- "CLASS is null, or held if the owner isn't null, else free"
 abbrev pub class_of : State → Class

@@ -1,100 +1,47 @@
 // Whether two states are the same: the Rust's `==`. Bytes past the lengths are not compared.
-ghost use Rattle.std.specs.Prelude.{◌≡◌, ◌&&◌, ℕ, ◌≤◌, min, length};
-ghost use Rattle.std.specs.Bool.{beq};
+ghost use Rattle.std.specs.Prelude.{◌≡◌, ◌&&◌};
 ghost use Rattle.words.specs.Sameness.{same};
 ghost use Rattle.name_state.specs.State.{same_state};
 ghost use Rattle.name_state.specs.Paper.{text, state_of};
 
-use crate::{NameState, equal_amounts, equal_heights, equal_times};
-use words::same::same_bytes;
+use crate::NameState;
 
-// The first n bytes of an array of so many: none past it.
-fn within(n: usize, size: usize) -> usize
-    ensures { result ≡ min n size }
-{
-    if n < size {
-        return n;
-    }
-    size
-}
-
-// Two texts, each the first so many bytes of an array; the arrays are of one size.
-fn same_text(a: &[u8], n: usize, b: &[u8], m: usize) -> bool
-    requires { length a.now ≡ length b.now }
+// Two texts, each the first so many bytes of an array; no byte past the array is compared.
+#[tactic(auto, using(crate::proofs::Sets::text_tests))]
+fn same_text<const N: usize>(a: &[u8; N], n: usize, b: &[u8; N], m: usize) -> bool
     ensures { result ≡ same (text n a.now) (text m b.now) }
 {
-    if n != m {
-        return false;
-    }
-    let k = within(n, a.len());
-    same_bytes(&a[..k], &b[..k])
-}
-
-fn all_alike(a: bool, x: bool, b: bool, y: bool, c: bool, z: bool) -> bool
-    ensures { result ≡ (beq a x && beq b y && beq c z) }
-{
-    if a != x {
-        return false;
-    }
-    if b != y {
-        return false;
-    }
-    c == z
+    let k = n.min(N);
+    n == m && a[..k] == b[..k]
 }
 
 impl NameState {
-    // Key, name and resource.
-    fn same_texts(self, other: NameState) -> bool
-        ensures { result ≡ (same (state_of self).key (state_of other).key && same (state_of self).name (state_of other).name && same (state_of self).resource (state_of other).resource) }
+    // Key, name and resource. Bytes past the lengths are not compared, so no derived `==` can stand here.
+    #[tactic(auto, using(crate::proofs::Sets::field_tests))]
+    fn same_texts(&self, other: &NameState) -> bool
+        ensures { result ≡ (same (state_of self.now).key (state_of other.now).key && same (state_of self.now).name (state_of other.now).name && same (state_of self.now).resource (state_of other.now).resource) }
     {
-        let own = self.name_hash;
-        let others = other.name_hash;
-        let key = own.0;
-        let other_key = others.0;
-        if !same_bytes(&key, &other_key) {
-            return false;
-        }
-        let name = self.name;
-        let other_name = other.name;
-        if !same_text(&name, self.name_length, &other_name, other.name_length) {
-            return false;
-        }
-        let resource = self.resource_data;
-        let other_resource = other.resource_data;
-        same_text(
-            &resource,
-            self.resource_length,
-            &other_resource,
-            other.resource_length,
-        )
+        self.name_hash == other.name_hash
+            && same_text(&self.name, self.name_length, &other.name, other.name_length)
+            && same_text(
+                &self.resource_data,
+                self.resource_length,
+                &other.resource_data,
+                other.resource_length,
+            )
     }
 
+    #[tactic(auto, using(crate::proofs::Sets::field_tests), unfolding(crate::specs::State::same_state))]
     pub fn same(self, other: NameState) -> bool
         ensures { result ≡ same_state (state_of self) (state_of other) }
     {
-        if !self.same_texts(other) {
-            return false;
-        }
-        if !equal_heights(self.heights(), other.heights()) {
-            return false;
-        }
-        if !equal_amounts(self.amounts(), other.amounts()) {
-            return false;
-        }
-        if !equal_times(self.times(), other.times()) {
-            return false;
-        }
-        let owner = self.owner;
-        if !owner.same(other.owner) {
-            return false;
-        }
-        all_alike(
-            self.registered,
-            other.registered,
-            self.expired,
-            other.expired,
-            self.weak,
-            other.weak,
-        )
+        self.same_texts(&other)
+            && self.heights() == other.heights()
+            && self.amounts() == other.amounts()
+            && self.times() == other.times()
+            && self.owner == other.owner
+            && self.registered == other.registered
+            && self.expired == other.expired
+            && self.weak == other.weak
     }
 }

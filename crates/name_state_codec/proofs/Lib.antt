@@ -1,5 +1,5 @@
+pub mod Sets
 pub mod Inside
-pub mod Steps
 pub mod Stored
 pub mod Canonical
 pub mod Own
@@ -9,6 +9,5 @@ pub mod Checks
 pub mod Back
 pub mod Short
 pub mod Theorems
-pub mod Same
 pub mod One
 pub mod Decoded

@@ -1,74 +1,53 @@
 -- Words for private functions.
-use Rattle.std.specs.Prelude.{ℕ, ◌+◌, ◌≤◌, List, [], ◌++◌, not, length, eqb}
+use Rattle.std.specs.Prelude.{◌≡◌, ℕ, ◌+◌, ◌≤◌, List, [], ◌∷◌, ◌++◌, not, length, ltb, eqb}
 use Rattle.words.specs.Words.{bytes}
-use Rattle.words.specs.Buffers.{pick}
+use Rattle.words.specs.Buffers.{pick, over}
 use Rattle.refusal.specs.Outcome.{Outcome, ok, err, then}
 use Rattle.encoding.specs.Wire.{compact, finish_at}
-use Rattle.encoding.specs.Paper.{moved_paper}
-use Rattle.primitives.specs.Outpoints.{null_outpoint, is_null}
+use Rattle.primitives.specs.Outpoints.{is_null}
 use Rattle.primitives.specs.declared.Outpoint.{Outpoint}
-use Rattle.primitives.specs.declared.ReadOutpoint.{ReadOutpoint}
 use Rattle.names.specs.Name.{max_name_size}
-use Rattle.name_state.specs.State.{State, max_resource_size, bitmap, binding}
+use Rattle.name_state.specs.State.{State, max_resource_size, max_safe_integer, bitmap, binding}
 use Rattle.name_state.specs.declared.Amounts.{Amounts}
 use Rattle.name_state.specs.declared.Times.{Times}
+use Rattle.name_state_codec.specs.declared.read.Reason.{Reason}
+use Rattle.name_state_codec.specs.declared.read.Texts.{Texts}
 use Rattle.name_state_codec.specs.declared.read.Numbers.{Numbers}
-use Rattle.name_state_codec.specs.declared.read.Fields.{Fields}
-use Rattle.name_state_codec.specs.declared.read.Reading.{Reading}
-use Rattle.name_state_codec.specs.Read.{present, texts_at, numbers_at, owner_at, amounts_at, times_at, gathered, standing_at}
-use Rattle.name_state_codec.specs.Written.{has, given, owner_record}
+use Rattle.name_state_codec.specs.declared.decode.Fields.{Fields}
+use Rattle.name_state_codec.specs.Read.{name_over, resource_over, unknown_bits, owner_index, renewal_count, gathered, standing_at}
+use Rattle.name_state_codec.specs.Written.{given, owner_record, safe_integer}
 
--- ---- the fields read so far, in numbers: texts, numbers, owner, amounts, times
-abbrev pub Said : Type 0
-Said = ((ℕ × ℕ) × (ℕ × ℕ)) × (ℕ × ℕ × ℕ) × Outpoint × (ℕ × ℕ) × (ℕ × ℕ × ℕ × ℕ)
+-- the number of a reason of 7
+abbrev pub reason_number : Reason → ℕ
+reason_number Reason.NameOver = name_over
+reason_number Reason.ResourceOver = resource_over
+reason_number Reason.UnknownBits = unknown_bits
+reason_number Reason.OwnerIndex = owner_index
+reason_number Reason.RenewalCount = renewal_count
+reason_number Reason.SafeInteger = safe_integer
 
-abbrev pub said : Fields → Said
-said f = (
-  ((f.name_at, f.name_length), (f.resource_at, f.resource_length)),
-  (f.height.0, f.renewal.0, f.bits),
-  f.owner,
-  (f.value.0, f.highest.0),
-  (f.transfer.0, f.revoked.0, f.claimed.0, f.renewals),
-)
+-- ---- what was read, in numbers
+abbrev pub texts_said : Texts → (ℕ × ℕ) × (ℕ × ℕ)
+texts_said t = ((t.name.start, t.name.len), (t.resource.start, t.resource.len))
 
-abbrev pub reading_paper : Reading → Outcome Said
-reading_paper r = then (moved_paper r.moved) (λ u p. ok (said r.fields) p)
+abbrev pub numbers_said : Numbers → ℕ × ℕ × ℕ
+numbers_said n = (n.height.0, n.renewal.0, n.bits)
 
-abbrev pub owner_paper : ReadOutpoint → Outcome Outpoint
-owner_paper r = then (moved_paper r.moved) (λ u p. ok r.outpoint p)
+abbrev pub amounts_said : Amounts → ℕ × ℕ
+amounts_said a = (a.value.0, a.highest.0)
 
--- ---- the steps: what is read next, beside what was read
-abbrev pub with_texts : List ℕ → Said → Outcome Said
-with_texts s f = then (texts_at s 0) (λ texts end. ok (texts, f.1, f.2, f.3, f.4) end)
+abbrev pub times_said : Times → ℕ × ℕ × ℕ × ℕ
+times_said t = (t.transfer.0, t.revoked.0, t.claimed.0, t.renewals)
 
-abbrev pub with_numbers : List ℕ → Said → ℕ → Outcome Said
-with_numbers s f at = then (numbers_at s at) (λ numbers end. ok (f.0, numbers, f.2, f.3, f.4) end)
-
-abbrev pub with_owner : List ℕ → Said → ℕ → Outcome Said
-with_owner s f at = then (present (has 1 f.1.2) (owner_at s at) null_outpoint at) (λ owner end. ok (f.0, f.1, owner, f.3, f.4) end)
-
-abbrev pub with_amounts : List ℕ → Said → ℕ → Outcome Said
-with_amounts s f at = then (amounts_at f.1.2 s at) (λ amounts end. ok (f.0, f.1, f.2, amounts, f.4) end)
-
-abbrev pub with_times : List ℕ → Said → ℕ → Outcome Said
-with_times s f at = then (times_at f.1.2 s at) (λ times end. ok (f.0, f.1, f.2, f.3, times) end)
-
-abbrev pub gathered_of : List ℕ → List ℕ → Said → State
-gathered_of key s f = gathered key s f.0 f.1 (f.2, f.3) f.4
-
-abbrev pub gathered_at : List ℕ → List ℕ → Said → ℕ → Outcome (ℕ × State)
-gathered_at key s f at = ok (f.1.2, gathered_of key s f) at
+-- the state that the fields make
+abbrev pub gathered_of : List ℕ → List ℕ → Fields → State
+gathered_of key s f = gathered key s (texts_said f.texts) (numbers_said f.numbers) (f.owner, amounts_said f.amounts) (times_said f.times)
 
 -- the texts stand inside the record, and none is too long
-abbrev pub Inside : List ℕ → Said → Type 0
-Inside s f =
-    (f.0.0.1 ≤ max_name_size) × (f.0.1.1 ≤ max_resource_size)
-    × (f.0.0.0 + f.0.0.1 ≤ length s) × (f.0.1.0 + f.0.1.1 ≤ length s)
-
--- what holds of what was read, where it was not refused
-abbrev pub Each : {A : Type 0} → (A → Type 0) → Outcome A → Type 0
-Each P (ok a p) = P a
-Each P (err k vs p) = Unit
+abbrev pub Inside : List ℕ → Texts → Type 0
+Inside s t =
+    (t.name.len ≤ max_name_size) × (t.resource.len ≤ max_resource_size)
+    × (t.name.start + t.name.len ≤ length s) × (t.resource.start + t.resource.len ≤ length s)
 
 -- ---- the judgement with 8 told by the bitmap, as the code does (proofs/Canonical.antt: `read-bits`, it is the same)
 unfoldable pub judged_bits : List ℕ → ℕ × State → ℕ → Outcome State
@@ -76,6 +55,13 @@ judged_bits s read end =
     then (finish_at s end) (λ u at.
     then (standing_at at (binding read.1)) (λ u p.
     pick (eqb (bitmap read.1) read.0) (ok read.1 p) (err 8 [] p)))
+
+-- ---- two of the writer's checks
+abbrev pub limited : ℕ → ℕ → Outcome Unit
+limited maximum n = pick (ltb maximum n) (err 5 (n ∷ maximum ∷ []) 0) (ok tt 0)
+
+abbrev pub safe : ℕ → Outcome Unit
+safe v = pick (ltb max_safe_integer v) (err 7 (safe_integer ∷ []) 0) (ok tt 0)
 
 -- ---- the present fields by their values alone, as the code writes them (proofs/Own.antt: the same bytes)
 unfoldable pub owner_bytes : Outpoint → List ℕ
@@ -100,3 +86,7 @@ text_bytes width bs = bytes width (length bs) ++ bs
 -- height, renewal and the bitmap
 abbrev pub number_bytes : Numbers → List ℕ
 number_bytes n = bytes 4 n.height.0 ++ bytes 4 n.renewal.0 ++ bytes 2 n.bits
+
+-- bytes that were put from a place on: where they end, and all that is there then
+abbrev pub Puts : ℕ → List ℕ → List ℕ → ℕ → List ℕ → Type 0
+Puts at bs d end d' = (end ≡ at + length bs) × (d' ≡ over at bs d)

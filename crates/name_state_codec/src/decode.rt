@@ -1,187 +1,124 @@
 // Reading a state under its key.
-ghost use Rattle.std.specs.Prelude.{◌≡◌, [], ◌∷◌};
-ghost use Rattle.words.specs.Buffers.{pick};
-ghost use Rattle.refusal.specs.Outcome.{ok, err, then, past};
-ghost use Rattle.refusal.specs.Paper.{number_of, carried, judgement_paper};
-ghost use Rattle.encoding.specs.declared.read.Moved.{Moved};
-ghost use Rattle.encoding.specs.Paper.{moved_paper};
-ghost use Rattle.name_state.specs.State.{max_size};
+ghost use Rattle.std.specs.Prelude.{◌≡◌, ◌+◌, ◌≤◌, length, take, drop};
+ghost use Rattle.words.specs.Buffers.{zero_padded};
+ghost use Rattle.refusal.specs.Outcome.{past};
+ghost use Rattle.encoding.specs.Paper.{read_paper, moved_paper};
 ghost use Rattle.name_state.specs.Paper.{state_of, stored};
-ghost use Rattle.name_state_codec.specs.Read.{standing_at, read_state};
-ghost use Rattle.name_state_codec.specs.Paper.{decoded_paper, zero_state, shown_state};
-ghost use Rattle.name_state_codec.specs.Workers.{said, reading_paper, gathered_of, gathered_at, Inside, Each, judged_bits};
+ghost use Rattle.name_state_codec.specs.Read.{read_state};
+ghost use Rattle.name_state_codec.specs.Paper.{decoded};
+ghost use Rattle.name_state_codec.specs.Workers.{gathered_of, judged_bits, Inside};
 
 use crate::read::{
-    Fields, Reading, no_fields, with_amounts, with_numbers, with_owner, with_texts, with_times,
+    Numbers, Texts, has, read_amounts, read_numbers, read_owner, read_texts, read_times,
 };
-use encoding::read::{Cursor, Moved};
-use name_state::NameState;
-use primitives::NameHash;
-use refusal::{Judgement, Refusal, Stop};
-use words::store::put_bytes;
+use encoding::read::{Cursor, Read, Span};
+use name_state::{Amounts, NameState, Times, field};
+use primitives::{NameHash, Outpoint};
+use refusal::{Refusal, Stop};
 
-// Whether the bytes are a state's record, and the state; zeros where refused.
+// The fields of a record; of the name and the resource, where they stand.
 #[derive(Clone, Copy)]
-pub struct Decoded {
-    pub read: Moved,
-    pub state: NameState,
+pub struct Fields {
+    pub texts: Texts,
+    pub numbers: Numbers,
+    pub owner: Outpoint,
+    pub amounts: Amounts,
+    pub times: Times,
 }
 
-fn refused(stop: Stop) -> Decoded
-    ensures { (result.read ≡ Moved.Refused stop) × (result.state ≡ zero_state) }
+// The bytes of a part, and zeros past them.
+#[tactic(auto, using(crate::proofs::Sets::paddings), unfolding(words::specs::Buffers::zero_padded))]
+fn padded<const N: usize>(s: &[u8], part: Span) -> [u8; N]
+    requires { (part.len ≤ N) × (part.start + part.len ≤ length s.now) }
+    ensures { result ≡ zero_padded N (take part.len (drop part.start s.now)) }
 {
-    let mut state = NameState::null(NameHash([0u8; 32]));
-    state.owner.index = 0;
-    Decoded {
-        read: Moved::Refused(stop),
-        state,
-    }
+    let mut array = [0u8; N];
+    array[..part.len].copy_from_slice(&s[part.start..part.start + part.len]);
+    array
 }
 
-// The state that the fields make.
+// The state that the fields make. Compiled into its caller: a call would copy the state, of 712 bytes, once more.
+#[inline(always)]
+#[tactic(auto, unfolding(crate::specs::Read::gathered))]
 fn build(key: NameHash, s: &[u8], fields: Fields) -> NameState
-    requires { Inside s.now (said fields) }
-    ensures { result ≡ stored (gathered_of key.0 s.now (said fields)) }
+    requires { Inside s.now fields.texts }
+    ensures { result ≡ stored (gathered_of key.0 s.now fields) }
 {
-    let a = fields.name_at;
-    let n = fields.name_length;
-    let mut name = [0u8; 63];
-    put_bytes(&mut name, 0, &s[a..a + n]);
-    let b = fields.resource_at;
-    let m = fields.resource_length;
-    let mut resource = [0u8; 512];
-    put_bytes(&mut resource, 0, &s[b..b + m]);
-    let bits = fields.bits;
-    let height = fields.height;
-    let renewal = fields.renewal;
-    let owner = fields.owner;
-    let value = fields.value;
-    let highest = fields.highest;
-    let transfer = fields.transfer;
-    let revoked = fields.revoked;
-    let claimed = fields.claimed;
+    let Fields {
+        texts,
+        numbers,
+        owner,
+        amounts,
+        times,
+    } = fields;
     NameState {
         name_hash: key,
-        name,
-        name_length: n,
-        resource_data: resource,
-        resource_length: m,
-        height,
-        renewal,
+        name: padded(s, texts.name),
+        name_length: texts.name.len,
+        resource_data: padded(s, texts.resource),
+        resource_length: texts.resource.len,
+        height: numbers.height,
+        renewal: numbers.renewal,
         owner,
-        value,
-        highest,
-        transfer,
-        revoked,
-        claimed,
-        renewals: fields.renewals,
-        registered: bits / 128 % 2 == 1,
-        expired: bits / 256 % 2 == 1,
-        weak: bits / 512 % 2 == 1,
+        value: amounts.value,
+        highest: amounts.highest,
+        transfer: times.transfer,
+        revoked: times.revoked,
+        claimed: times.claimed,
+        renewals: times.renewals,
+        registered: has(numbers.bits, field::REGISTERED),
+        expired: has(numbers.bits, field::EXPIRED),
+        weak: has(numbers.bits, field::WEAK),
     }
 }
 
-// Refused where the record ends.
-fn refused_at(refusal: Refusal, end: Cursor) -> Moved
-    ensures { moved_paper result ≡ err (number_of refusal) (carried refusal) end.position }
-{
-    Moved::Refused(Stop {
-        refusal,
-        position: end.position,
-    })
-}
-
-// The name and its key, then the bitmap.
-fn bound(binding: Judgement, canonical: bool, end: Cursor) -> Moved
-    ensures { moved_paper result ≡ then (standing_at end.position (judgement_paper binding)) (λ u p. pick canonical (ok tt p) (err 8 [] p)) }
-{
-    match binding {
-        Judgement::Passes => {
-            if canonical {
-                return Moved::To(end);
-            }
-            return refused_at(Refusal::NonCanonicalNameState, end);
-        }
-        Judgement::Refused(refusal) => {
-            return refused_at(refusal, end);
-        }
-    }
-}
-
-// What is judged at the end: trailing bytes, the name and its key, the bitmap.
-fn judge(s: &[u8], bits: u16, state: NameState, c: Cursor) -> Moved
+// What is judged at the end: trailing bytes, the name and its key, the bitmap. Compiled into its caller, as above.
+#[inline(always)]
+#[tactic(auto, using(crate::proofs::Sets::read_steps), unfolding(crate::specs::Workers::judged_bits))]
+fn judge(s: &[u8], bits: u16, state: NameState, c: Cursor) -> Result<Cursor, Stop>
     ensures { moved_paper result ≡ past (judged_bits s.now (bits, state_of state) c.position) }
 {
-    let finished = c.finish(s);
-    match finished {
-        Moved::To(end) => {
-            return bound(state.validate_key_binding(), state.bitmap() == bits, end);
-        }
-        Moved::Refused(_) => {
-            return finished;
-        }
+    let end = c.finish(s)?;
+    let position = end.position;
+    state
+        .validate_key_binding()
+        .map_err(|refusal| Stop { refusal, position })?;
+    if state.bitmap() != bits {
+        return Err(Stop {
+            refusal: Refusal::NonCanonicalNameState,
+            position,
+        });
     }
-}
-
-// The state of all fields, and the judgement.
-fn gather(key: NameHash, s: &[u8], fields: Fields, c: Cursor) -> Decoded
-    requires { Inside s.now (said fields) }
-    ensures { decoded_paper result ≡ shown_state (then (gathered_at key.0 s.now (said fields) c.position) (judged_bits s.now)) }
-{
-    let state = build(key, s, fields);
-    let read = judge(s, fields.bits, state, c);
-    match read {
-        Moved::To(_) => {
-            return Decoded { read, state };
-        }
-        Moved::Refused(stop) => {
-            return refused(stop);
-        }
-    }
-}
-
-// The judgement of what was read, or the refusal.
-fn judged(key: NameHash, s: &[u8], reading: Reading) -> Decoded
-    requires { Each (Inside s.now) (reading_paper reading) }
-    ensures { decoded_paper result ≡ shown_state (then (then (reading_paper reading) (gathered_at key.0 s.now)) (judged_bits s.now)) }
-{
-    let moved = reading.moved;
-    match moved {
-        Moved::To(c) => {
-            let fields = reading.fields;
-            return gather(key, s, fields, c);
-        }
-        Moved::Refused(stop) => {
-            return refused(stop);
-        }
-    }
-}
-
-// A record above 668 bytes is not read.
-fn too_large(actual: usize) -> Decoded
-    ensures { decoded_paper result ≡ (err 5 (actual ∷ max_size ∷ []) 0, zero_state) }
-{
-    let refusal = Refusal::TooLarge {
-        actual,
-        maximum: NameState::MAX_SIZE,
-    };
-    refused(Stop {
-        refusal,
-        position: 0,
-    })
+    Ok(end)
 }
 
 // The state of a record under its key; its name is hashed once.
-pub fn decode(key: NameHash, s: &[u8]) -> Decoded
-    ensures { decoded_paper result ≡ shown_state (read_state key.0 s.now) }
+#[tactic(auto, using(crate::proofs::Sets::read_steps), unfolding(crate::specs::Read::read_state, crate::specs::Read::fields_at, crate::specs::Read::optional_at, crate::specs::Read::held_at))]
+pub fn decode(key: NameHash, s: &[u8]) -> Read<NameState>
+    ensures { read_paper result ≡ decoded (read_state key.0 s.now) }
 {
     if NameState::MAX_SIZE < s.len() {
-        return too_large(s.len());
+        return Err(Stop {
+            refusal: Refusal::TooLarge {
+                actual: s.len(),
+                maximum: NameState::MAX_SIZE,
+            },
+            position: 0,
+        });
     }
-    let mut reading = with_texts(s, no_fields());
-    reading = with_numbers(s, reading);
-    reading = with_owner(s, reading);
-    reading = with_amounts(s, reading);
-    reading = with_times(s, reading);
-    judged(key, s, reading)
+    let (texts, after_texts) = read_texts(s, Cursor { position: 0 })?;
+    let (numbers, after_numbers) = read_numbers(s, after_texts)?;
+    let (owner, after_owner) = read_owner(s, after_numbers, numbers.bits)?;
+    let (amounts, after_amounts) = read_amounts(s, after_owner, numbers.bits)?;
+    let (times, after_times) = read_times(s, after_amounts, numbers.bits)?;
+    let fields = Fields {
+        texts,
+        numbers,
+        owner,
+        amounts,
+        times,
+    };
+    let state = build(key, s, fields);
+    let end = judge(s, numbers.bits, state, after_times)?;
+    Ok((state, end))
 }

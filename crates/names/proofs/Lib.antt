@@ -1,4 +1,4 @@
-pub mod Letters
 pub mod Hash
 pub mod Same
 pub mod One
+pub mod Spelled

@@ -1,5 +1,6 @@
 -- Names (document 01, module 5).
-use Rattle.std.specs.Prelude.{ℕ, ◌-◌, List, [], ◌∷◌, ◌++◌, Bool, true, ◌&&◌, ◌||◌, not, length, get_or, leb, eqb}
+use Rattle.std.specs.Prelude.{ℕ, ◌-◌, List, [], ◌∷◌, ◌++◌, Bool, ◌&&◌, ◌||◌, not, length, get_or, leb, eqb}
+use Rattle.std.specs.List.{list_all}
 use Rattle.words.specs.Buffers.{pick}
 use Rattle.words.specs.Sameness.{same}
 use Rattle.refusal.specs.Outcome.{Outcome, ok, err}
@@ -17,13 +18,9 @@ plain b = (leb 48 b && leb b 57) || (leb 97 b && leb b 122)
 unfoldable pub mark : ℕ → Bool
 mark b = eqb b 45 || eqb b 95
 
-unfoldable pub every : (ℕ → Bool) → List ℕ → Bool
-every holds [] = true
-every holds (b ∷ bs) = holds b && every holds bs
-
 -- "bytes of 0-9, a-z, with `-` and `_`"
 unfoldable pub letters : List ℕ → Bool
-letters s = every (λ b. plain b || mark b) s
+letters s = list_all (λ b. plain b || mark b) s
 
 -- the letters of the reserved names
 abbrev pub example : List ℕ

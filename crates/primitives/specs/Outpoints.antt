@@ -3,12 +3,8 @@ use Rattle.std.specs.Prelude.{ℕ, List, ◌++◌, Bool, ◌&&◌, replicate, eq
 use Rattle.words.specs.Words.{bytes}
 use Rattle.words.specs.Sameness.{same}
 use Rattle.refusal.specs.Outcome.{Outcome, ok, err, then}
-use Rattle.refusal.specs.declared.Stop.{Stop}
 use Rattle.encoding.specs.Wire.{bytes_at, fixed_at}
-use Rattle.encoding.specs.Paper.{moved_paper}
-use Rattle.encoding.specs.declared.read.Moved.{Moved}
 use Rattle.primitives.specs.declared.Outpoint.{Outpoint}
-use Rattle.primitives.specs.declared.ReadOutpoint.{ReadOutpoint}
 
 -- the outpoint of a hash and an index
 abbrev pub outpoint : List ℕ → ℕ → Outpoint
@@ -34,18 +30,11 @@ outpoint_bytes p = p.transaction_hash.0 ++ bytes 4 p.index
 unfoldable pub outpoint_at : List ℕ → ℕ → Outcome Outpoint
 outpoint_at s at = then (bytes_at 32 s at) (λ hash next. then (fixed_at 4 s next) (λ index end. ok (outpoint hash index) end))
 
-abbrev pub outpoint_paper : ReadOutpoint → Outcome Unit × Outpoint
-outpoint_paper r = (moved_paper r.moved, r.outpoint)
-
 -- "Unused parts of an answer are zeros": what stands where there is no outpoint
 abbrev pub no_outpoint : Outpoint
 no_outpoint = outpoint (replicate 32 0) 0
 
--- what is handed out: the outpoint beside the outcome
+-- what is handed out over C: the outpoint beside the outcome
 abbrev pub shown_outpoint : Outcome Outpoint → Outcome Unit × Outpoint
 shown_outpoint (ok p next) = (ok tt next, p)
 shown_outpoint (err k vs p) = (err k vs p, no_outpoint)
-
--- the answer of a read that was refused
-abbrev pub refused_outpoint : Stop → ReadOutpoint
-refused_outpoint stop = record { moved = Moved.Refused stop; outpoint = no_outpoint }

@@ -4,12 +4,18 @@ use Prim.Native.Nat.{ℕ}
 use native.Mathlib.Omega.{arith}
 use mathlib.Core.List.{List}
 use mathlib.Core.Bool.{Bool, true, false}
+use Rattle.std.specs.Prelude.{Result, Err, IsErr, IsErrAnd}
+use Rattle.std.proofs.lemmas.Result.{err_from_is_err_and}
 use Rattle.words.specs.Buffers.{pick}
 use Rattle.refusal.specs.Outcome.{Stand, Outcome, ok, err, then, past, Wrote, wrote, refused, next}
 
 -- `f r ≡ y` is what a callee ensures, and `r ≡ r'` what the arm of a match knows: y is what f says of r'
 pub told : {X Y : Type 0} (f : X → Y) {r r' : X} {y : Y} → f r ≡ y → r ≡ r' → y ≡ f r'
 told f e k = sym e ∙ ap f k
+
+-- what a `?` hands out is the error that it was given
+pub raised : {T E : Type 0} {r : Result T E} {e : E} → IsErr r × IsErrAnd r (λ x. x ≡ e) → r ≡ Err e
+raised {r = r} h = let k = err_from_is_err_and r h.1 in k.1 ∙ ap Err k.2
 
 -- an outcome is not both a value and a refusal
 pub never : {A : Type 0} {o : Outcome A} {a : A} {p : ℕ} {k : ℕ} {vs : List ℕ} {q : Stand} → o ≡ ok a p → o ≡ err k vs q → ⊥

@@ -5,11 +5,11 @@ use mathlib.Core.List.{List}
 use lib.ListN.{get_or}
 use lib.Dec.{eqb}
 use Rattle.words.specs.Buffers.{pick}
-use Rattle.refusal.specs.Outcome.{Stand, Outcome, ok, err}
-use Rattle.refusal.specs.Paper.{number_of, carried, standing, judgement_paper}
+use Rattle.refusal.specs.Outcome.{Stand, Outcome, ok, err, Wrote, wrote, refused}
+use Rattle.refusal.specs.Paper.{number_of, carried, standing, judgement_paper, put_paper}
 use Rattle.refusal.specs.declared.Refusal.{Refusal}
 use Rattle.refusal.specs.declared.Stop.{Stop}
-use Rattle.refusal.specs.declared.Judgement.{Judgement}
+use Rattle.std.specs.Prelude.{Result, Ok, Err}
 
 -- what is read back from what f says decides what f was said of
 pub one-to-one : {X Y : Type 0} (f : X → Y) (back : Y → X) → ((x : X) → back (f x) ≡ x) → {x x' : X} → f x ≡ f x' → x ≡ x'
@@ -91,10 +91,18 @@ stop k vs p = record { refusal = refusal k vs; position = p }
 pub stop-back : (s : Stop) → stop (number_of s.refusal) (carried s.refusal) (standing s) ≡ s
 stop-back s = ap (λ r. record { refusal = r; position = s.position }) (refusal-back s.refusal)
 
-judgement-back : Outcome Unit → Judgement
-judgement-back (ok u p) = Judgement.Passes
-judgement-back (err k vs p) = Judgement.Refused (refusal k vs)
+judgement-back : Outcome Unit → Result Unit Refusal
+judgement-back (ok u p) = Ok u
+judgement-back (err k vs p) = Err (refusal k vs)
 
-pub judgement-same : {r r' : Judgement} → judgement_paper r ≡ judgement_paper r' → r ≡ r'
+pub judgement-same : {r r' : Result Unit Refusal} → judgement_paper r ≡ judgement_paper r' → r ≡ r'
 unfolding judgement-back
-judgement-same = one-to-one judgement_paper judgement-back (elim [ Judgement.Passes ↦ refl | Judgement.Refused r ↦ ap Judgement.Refused (refusal-back r) ])
+judgement-same = one-to-one judgement_paper judgement-back (elim [ Ok u ↦ refl | Err r ↦ ap Err (refusal-back r) ])
+
+put_back : Wrote → Result ℕ Refusal
+put_back (wrote n) = Ok n
+put_back (refused k vs) = Err (refusal k vs)
+
+pub put_same : {r r' : Result ℕ Refusal} → put_paper r ≡ put_paper r' → r ≡ r'
+unfolding put_back
+put_same = one-to-one put_paper put_back (elim [ Ok n ↦ refl | Err r ↦ ap Err (refusal-back r) ])

@@ -1,9 +1,8 @@
 -- A refusal in the document's numbers (document 01, "Refusal numbers").
-use Rattle.std.specs.Prelude.{ℕ, List, [], ◌∷◌, get_or}
-use Rattle.refusal.specs.Outcome.{Stand, Outcome, ok, err}
+use Rattle.std.specs.Prelude.{ℕ, List, [], ◌∷◌, get_or, Result, Ok, Err}
+use Rattle.refusal.specs.Outcome.{Stand, Outcome, ok, err, Wrote, wrote, refused}
 use Rattle.refusal.specs.declared.Refusal.{Refusal}
 use Rattle.refusal.specs.declared.Stop.{Stop}
-use Rattle.refusal.specs.declared.Judgement.{Judgement}
 use Rattle.refusal.specs.declared.Carried.{Carried}
 
 -- the table's first column
@@ -85,6 +84,11 @@ abbrev pub stop_paper : {A : Type 0} → Stop → Outcome A
 stop_paper s = err (number_of s.refusal) (carried s.refusal) (standing s)
 
 -- whether a thing that is not read passes, or why not: nothing is read, so the place is 0
-abbrev pub judgement_paper : Judgement → Outcome Unit
-judgement_paper Judgement.Passes = ok tt 0
-judgement_paper (Judgement.Refused r) = err (number_of r) (carried r) 0
+abbrev pub judgement_paper : Result Unit Refusal → Outcome Unit
+judgement_paper (Ok u) = ok u 0
+judgement_paper (Err r) = err (number_of r) (carried r) 0
+
+-- a write, as how many bytes were written, or why none was
+abbrev pub put_paper : Result ℕ Refusal → Wrote
+put_paper (Ok n) = wrote n
+put_paper (Err r) = refused (number_of r) (carried r)

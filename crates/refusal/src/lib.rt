@@ -5,9 +5,9 @@ ghost use Rattle.std.specs.Prelude.{◌≡◌, [], ◌∷◌};
 ghost use Rattle.refusal.specs.Outcome.{refused_by};
 ghost use Rattle.refusal.specs.Paper.{number_of, carried, shown_carried, judgement_paper};
 
-// The names and the carried numbers are the table's. The outpoints of 12 stand beside the refusal in the verifier's
-// answer, since an enum here holds no arrays.
-#[derive(Clone, Copy)]
+// The names and the carried numbers are the table's. The outpoints of 12 stand beside the refusal, in the verifier's
+// own error, so that every other answer is small.
+#[derive(Clone, Copy, PartialEq, Eq)]
 pub enum Refusal {
     UnexpectedEnd { offset: usize, needed: usize },
     LengthExceedsBound { actual: usize, maximum: usize },
@@ -41,18 +41,11 @@ pub enum Refusal {
     BadItem { item: usize },
 }
 
-// What a refused read hands back: the refusal, and the position where the reader then stands.
-#[derive(Clone, Copy)]
+// The error of a read: the refusal, and the position where the reader then stands.
+#[derive(Clone, Copy, PartialEq, Eq)]
 pub struct Stop {
     pub refusal: Refusal,
     pub position: usize,
-}
-
-// Whether a thing that is not read passes, or why not.
-#[derive(Clone, Copy)]
-pub enum Judgement {
-    Passes,
-    Refused(Refusal),
 }
 
 // The refusal's number in document 01's table.
@@ -60,63 +53,44 @@ pub fn number(r: Refusal) -> u8
     ensures { result ≡ number_of r }
 {
     match r {
-        Refusal::UnexpectedEnd {
-            offset: _,
-            needed: _,
-        } => 1,
-        Refusal::LengthExceedsBound {
-            actual: _,
-            maximum: _,
-        } => 2,
-        Refusal::TrailingBytes { remaining: _ } => 3,
-        Refusal::InvalidValue { width: _ } => 4,
-        Refusal::TooLarge {
-            actual: _,
-            maximum: _,
-        } => 5,
+        Refusal::UnexpectedEnd { .. } => 1,
+        Refusal::LengthExceedsBound { .. } => 2,
+        Refusal::TrailingBytes { .. } => 3,
+        Refusal::InvalidValue { .. } => 4,
+        Refusal::TooLarge { .. } => 5,
         Refusal::InvalidName => 6,
-        Refusal::InvalidNameState { reason: _ } => 7,
+        Refusal::InvalidNameState { .. } => 7,
         Refusal::NonCanonicalNameState => 8,
         Refusal::NameStateHashMismatch => 9,
         Refusal::CoinbaseRequiresIssuanceVerifier => 10,
-        Refusal::InputCountMismatch {
-            transaction: _,
-            coins: _,
-        } => 11,
-        Refusal::CoinOutpointMismatch { input: _ } => 12,
-        Refusal::MissingLinkedOutput { input: _, kind: _ } => 13,
-        Refusal::InvalidTransition {
-            input: _,
-            from: _,
-            to: _,
-        } => 14,
-        Refusal::MalformedCovenant { input: _, field: _ } => 15,
-        Refusal::NameHashMismatch { input: _ } => 16,
-        Refusal::StartHeightMismatch { input: _ } => 17,
-        Refusal::BlindCommitmentMismatch { input: _ } => 18,
-        Refusal::BidValueInflation { input: _ } => 19,
-        Refusal::ClaimCannotRedeem { input: _ } => 20,
-        Refusal::AddressMismatch { input: _ } => 21,
-        Refusal::LockedValueMismatch { input: _ } => 22,
-        Refusal::TransferDestinationMismatch { input: _ } => 23,
-        Refusal::RevokedCoinSpent { input: _ } => 24,
-        Refusal::UnknownCovenantCreatesName { input: _, to: _ } => 25,
-        Refusal::UnpairedLinkedOutput { output: _, kind: _ } => 26,
-        Refusal::SheetField { side: _, offset: _ } => 27,
-        Refusal::SheetTooLong { side: _, length: _ } => 28,
-        Refusal::NoRoom { needed: _ } => 29,
-        Refusal::BadItem { item: _ } => 30,
+        Refusal::InputCountMismatch { .. } => 11,
+        Refusal::CoinOutpointMismatch { .. } => 12,
+        Refusal::MissingLinkedOutput { .. } => 13,
+        Refusal::InvalidTransition { .. } => 14,
+        Refusal::MalformedCovenant { .. } => 15,
+        Refusal::NameHashMismatch { .. } => 16,
+        Refusal::StartHeightMismatch { .. } => 17,
+        Refusal::BlindCommitmentMismatch { .. } => 18,
+        Refusal::BidValueInflation { .. } => 19,
+        Refusal::ClaimCannotRedeem { .. } => 20,
+        Refusal::AddressMismatch { .. } => 21,
+        Refusal::LockedValueMismatch { .. } => 22,
+        Refusal::TransferDestinationMismatch { .. } => 23,
+        Refusal::RevokedCoinSpent { .. } => 24,
+        Refusal::UnknownCovenantCreatesName { .. } => 25,
+        Refusal::UnpairedLinkedOutput { .. } => 26,
+        Refusal::SheetField { .. } => 27,
+        Refusal::SheetTooLong { .. } => 28,
+        Refusal::NoRoom { .. } => 29,
+        Refusal::BadItem { .. } => 30,
     }
 }
 
 // The refusal's number, 0 where there is none.
-pub fn judgement_number(j: Judgement) -> u8
-    ensures { result ≡ refused_by (judgement_paper j) }
+pub fn judgement_number(judgement: Result<(), Refusal>) -> u8
+    ensures { result ≡ refused_by (judgement_paper judgement) }
 {
-    match j {
-        Judgement::Passes => 0,
-        Judgement::Refused(r) => number(r),
-    }
+    judgement.map_or_else(number, |_| 0)
 }
 
 // What a refusal carries, in the table's order; zeros where it carries less.

@@ -1,6 +1,6 @@
 -- Files of recorded answers of the Rust (differential/record writes them): what a record says, and when our rules say
 -- the same.
-use Rattle.std.specs.Prelude.{ℕ, ◌+◌, ◌-◌, ◌≤◌, ◌<◌, ◌≡◌, Bool, true, false, ◌&&◌, List, [], ◌∷◌, ◌++◌, length, take, drop, get_or, replicate, ltb, leb, eqb}
+use Rattle.std.specs.Prelude.{ℕ, ◌+◌, ◌-◌, ◌≤◌, ◌<◌, ◌≡◌, Bool, true, false, not, ◌&&◌, List, [], ◌∷◌, ◌++◌, length, take, drop, get_or, replicate, ltb, leb, eqb, Option, Some, None, Result, MatchResult}
 use Rattle.words.specs.Words.{le, bytes}
 use Rattle.words.specs.Buffers.{pick}
 use Rattle.words.specs.Sameness.{same}
@@ -11,10 +11,12 @@ use Rattle.name_state.specs.State.{bit}
 use Rattle.name_state.specs.Paper.{state_of, class_of, class_number}
 use Rattle.name_state.specs.declared.NameState.{NameState}
 use Rattle.name_state_codec.specs.Read.{read_state}
-use Rattle.name_state_codec.specs.Paper.{shown_state}
+use Rattle.name_state_codec.specs.Paper.{decoded}
 use Rattle.names.specs.Name.{name_hash}
 use Rattle.names.specs.Blind.{blind_of}
 use Rattle.links.specs.Verify.{Said, summary, stopped, Answer, verify_of}
+use Rattle.replay.specs.declared.records.Entry.{Entry}
+use Rattle.replay.specs.declared.records.UnknownEntry.{UnknownEntry}
 use Rattle.replay.specs.declared.records.Record.{Record}
 use Rattle.replay.specs.declared.compare.Judged.{Judged}
 
@@ -47,19 +49,40 @@ takes entry a =
     (pick (eqb entry 5) true
     (pick (eqb entry 6) (eqb (length a) 40) false)))))
 
+-- an entry's number
+abbrev pub entry_number : Entry → ℕ
+entry_number Entry.WholeCovenant = 1
+entry_number Entry.CovenantWithin = 2
+entry_number Entry.State = 3
+entry_number Entry.Links = 4
+entry_number Entry.Name = 5
+entry_number Entry.Blind = 6
+
+-- the entry with a number, or an error where no entry has it
+abbrev pub Numbered : ℕ → Result Entry UnknownEntry → Type 0
+Numbered n r = MatchResult r (λ entry. entry_number entry ≡ n) (λ e. 0 < n → 6 < n)
+
+-- a record's parts: its entry's number, where its argument starts and ends, and the place after the record
+abbrev pub Parts : Type 0
+Parts = ℕ × ℕ × ℕ × ℕ
+
+abbrev pub record_paper : Option Record → Option Parts
+record_paper (Some r) = Some (entry_number r.entry, r.start, r.end, r.next)
+record_paper None = None
+
 -- the record of an entry whose argument stands from `start` up to `end`
-unfoldable pub answered_at : List ℕ → ℕ → ℕ → ℕ → Record
+unfoldable pub answered_at : List ℕ → ℕ → ℕ → ℕ → Option Parts
 answered_at s entry start end =
     let m : ℕ = le (take 4 (drop end s)) in
-    pick (ltb (length s - end - 4) m) Record.Broken
-    (pick (takes entry (part s start end)) (Record.Found entry start end (end + 4 + m)) Record.Broken)
+    pick (ltb (length s - end - 4) m) None
+    (pick (takes entry (part s start end)) (Some (entry, start, end, end + 4 + m)) None)
 
--- the record at a place, or broken: its bytes are not all there, or its entry does not take its argument
-unfoldable pub record_at : List ℕ → ℕ → Record
+-- the record at a place, or none: its bytes are not all there, or its entry does not take its argument
+unfoldable pub record_at : List ℕ → ℕ → Option Parts
 record_at s at =
     let n : ℕ = le (take 4 (drop (at + 1) s)) in
-    pick (ltb (length s - at) 9) Record.Broken
-    (pick (ltb (length s - at - 9) n) Record.Broken (answered_at s (get_or s at 0) (at + 5) (at + 5 + n)))
+    pick (ltb (length s - at) 9) None
+    (pick (ltb (length s - at - 9) n) None (answered_at s (get_or s at 0) (at + 5) (at + 5 + n)))
 
 -- ---- what our rules answer
 
@@ -95,13 +118,9 @@ state_owner s = s.owner.transaction_hash.0
 unfoldable pub state_fields : NameState → List ℕ
 state_fields s = (numbers (state_amounts s) ++ (numbers (state_flags s) ++ state_owner s)) ++ (s.name ++ s.resource_data)
 
--- what is handed out: an outcome, and the state beside it
-abbrev pub state_said : Outcome Unit → NameState → List ℕ
-state_said (ok u p) s = numbers (state_accepted s p) ++ state_fields s
-state_said (err k vs p) s = numbers (refused k vs (position_of p ∷ 0 ∷ 0 ∷ 0 ∷ []))
-
-abbrev pub state_answer : Outcome Unit × NameState → List ℕ
-state_answer shown = state_said shown.0 shown.1
+abbrev pub state_answer : Outcome NameState → List ℕ
+state_answer (ok s p) = numbers (state_accepted s p) ++ state_fields s
+state_answer (err k vs p) = numbers (refused k vs (position_of p ∷ 0 ∷ 0 ∷ 0 ∷ []))
 
 abbrev pub links_numbers : Said → List ℕ
 links_numbers (summary inputs linked names) = accepted (0 ∷ inputs ∷ linked ∷ names ∷ [])
@@ -118,36 +137,30 @@ unfoldable pub answer_of : ℕ → List ℕ → List ℕ
 answer_of entry a =
     pick (eqb entry 1) (numbers (covenant_numbers (covenant.skimmed (covenant.whole_covenant a))))
     (pick (eqb entry 2) (numbers (covenant_numbers (covenant.skimmed (covenant.covenant_at (le (take 8 a)) (drop 16 a) (le (take 8 (drop 8 a)))))))
-    (pick (eqb entry 3) (state_answer (shown_state (read_state (take 32 a) (drop 32 a))))
+    (pick (eqb entry 3) (state_answer (decoded (read_state (take 32 a) (drop 32 a))))
     (pick (eqb entry 4) (links_answer (verify_of (take (le (take 4 a)) (drop 4 a)) (drop (4 + le (take 4 a)) a)))
     (pick (eqb entry 5) (name_answer (name_hash a))
     (pick (eqb entry 6) (blind_of (le (take 8 a)) (drop 8 a)) [])))))
 
 -- ---- what is told of a record
 
--- of a whole record: 1 where its answer is not ours, else 0; and the place after it
-abbrev pub told : ℕ → ℕ → Judged
-told differs next = record { whole = true; differs = differs; next = next }
-
+-- of a whole record: whether its answer is not ours, and the place after it
 unfoldable pub compared_of : List ℕ → ℕ → ℕ → ℕ → ℕ → Judged
-compared_of s entry start end next = told (pick (same (answer_of entry (part s start end)) (part s (end + 4) next)) 0 1) next
+compared_of s entry start end next =
+    record { differs = not (same (answer_of entry (part s start end)) (part s (end + 4) next)); next = next }
 
-abbrev pub told_of : List ℕ → Record → Judged
-told_of s (Record.Found entry start end next) = compared_of s entry start end next
-told_of s Record.Broken = record { whole = false; differs = 0; next = 0 }
+abbrev pub told_of : List ℕ → Option Parts → Option Judged
+told_of s (Some parts) = Some (compared_of s parts.0 parts.1 parts.2 parts.3)
+told_of s None = None
 
 -- what is told of the record at a place
-unfoldable pub judged_of : List ℕ → ℕ → Judged
+unfoldable pub judged_of : List ℕ → ℕ → Option Judged
 judged_of s at = told_of s (record_at s at)
 
 -- ---- words of the functions on the way
 
 -- where the parts of a record lie whose argument does not stand before a place, and that its entry takes its argument
-abbrev pub Inside : List ℕ → ℕ → Record → Type 0
-Inside s at (Record.Found entry start end next) =
-    (at ≤ start) × (start ≤ end) × (end + 4 ≤ next) × (next ≤ length s) × (takes entry (part s start end) ≡ true)
-Inside s at Record.Broken = Unit {0}
-
--- the place after a whole record that begins at a place
-abbrev pub Onward : ℕ → ℕ → Judged → Type 0
-Onward l at r = (r.differs ≤ 1) × (r.next ≤ l) × (r.whole ≡ true → at < r.next)
+abbrev pub Inside : List ℕ → ℕ → Option Record → Type 0
+Inside s at (Some r) =
+    (at ≤ r.start) × (r.start ≤ r.end) × (r.end + 4 ≤ r.next) × (r.next ≤ length s) × (takes (entry_number r.entry) (part s r.start r.end) ≡ true)
+Inside s at None = Unit {0}

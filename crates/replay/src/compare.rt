@@ -1,63 +1,38 @@
 // A recorded answer against ours.
-ghost use Rattle.std.specs.Prelude.{◌≡◌, true, ◌+◌, ◌≤◌, length};
-ghost use Rattle.words.specs.Buffers.{pick};
-ghost use Rattle.words.specs.Sameness.{same};
-ghost use Rattle.replay.specs.Answers.{part, takes, answer_of, compared_of, judged_of, Onward};
+ghost use Rattle.std.specs.Prelude.{◌≡◌, true, ◌+◌, ◌≤◌, ◌<◌, length, IfSome};
+ghost use Rattle.replay.specs.Answers.{entry_number, part, takes, compared_of, judged_of};
 
 use crate::answers::is_ours;
 use crate::records::{Record, find};
 
-// `whole`: the record is of the form; `differs`: 1 where its answer is not ours, else 0; `next`: the place after it.
+// Whether a record's answer is not ours, and the place after the record.
 #[derive(Clone, Copy)]
 pub struct Judged {
-    pub whole: bool,
-    pub differs: u64,
+    pub differs: bool,
     pub next: usize,
 }
 
-// 0 where the answer is ours, else 1.
-fn differs(entry: u8, a: &[u8], answer: &[u8]) -> u64
-    requires { takes entry a.now ≡ true }
-    ensures { result ≡ pick (same (answer_of entry a.now) answer.now) 0 1 }
+// A record in `s`: its argument stands from `start` up to `end`, and its answer after the four bytes of its length up
+// to `next`.
+#[tactic(auto, unfolding(crate::specs::Answers::compared_of))]
+fn compare(s: &[u8], found: Record) -> Judged
+    requires { (found.start ≤ found.end) × (found.end + 4 ≤ found.next) × (found.next ≤ length s.now) × (takes (entry_number found.entry) (part s.now found.start found.end) ≡ true) }
+    ensures { result ≡ compared_of s.now (entry_number found.entry) found.start found.end found.next }
 {
-    if is_ours(entry, a, answer) {
-        return 0;
-    }
-    1
-}
-
-// The record in `s` whose argument stands from `start` up to `end`, and its answer after the four bytes of its length
-// up to `next`.
-fn compare(s: &[u8], entry: u8, start: usize, end: usize, next: usize) -> Judged
-    requires { (start ≤ end) × (end + 4 ≤ next) × (next ≤ length s.now) × (takes entry (part s.now start end) ≡ true) }
-    ensures { result ≡ compared_of s.now entry start end next }
-{
-    let answer = end + 4;
-    let different = differs(entry, &s[start..end], &s[answer..next]);
+    let argument = &s[found.start..found.end];
+    let answer = &s[found.end + 4..found.next];
     Judged {
-        whole: true,
-        differs: different,
-        next: next,
+        differs: !is_ours(found.entry, argument, answer),
+        next: found.next,
     }
 }
 
-// The record at a place.
-pub(crate) fn judge(s: &[u8], at: usize) -> Judged
+// The record at a place, where it is of the form.
+#[tactic(auto, unfolding(crate::specs::Answers::judged_of, crate::specs::Answers::compared_of))]
+pub(crate) fn judge(s: &[u8], at: usize) -> Option<Judged>
     requires { at ≤ length s.now }
-    ensures { (result ≡ judged_of s.now at) × Onward (length s.now) at result }
+    ensures judged { result ≡ judged_of s.now at }
+    ensures onward { IfSome result (λ r. (at < r.next) × (r.next ≤ length s.now)) }
 {
-    let v = find(s, at);
-    match v {
-        Record::Found {
-            entry,
-            start,
-            end,
-            next,
-        } => compare(s, entry, start, end, next),
-        Record::Broken => Judged {
-            whole: false,
-            differs: 0,
-            next: 0,
-        },
-    }
+    Some(compare(s, find(s, at)?))
 }

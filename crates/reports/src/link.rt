@@ -1,26 +1,27 @@
 // The line of the link report.
 ghost use Rattle.std.specs.Prelude.{◌≡◌, [], ◌∷◌, ℕ, ◌≤◌, length};
 ghost use Rattle.words.specs.Buffers.{laid};
-ghost use Rattle.refusal.specs.Paper.{number_of, carried};
+ghost use Rattle.refusal.specs.Paper.{number_of, carried, put_paper};
 ghost use Rattle.encoding.specs.Wire.{put_answer};
-ghost use Rattle.encoding.specs.Paper.{put_paper};
 ghost use Rattle.sheets.specs.Sheet.{transaction_of};
 ghost use Rattle.links.specs.Verify.{summary, verify_of};
 ghost use Rattle.texts.specs.Text.{refused_line, end_of};
 ghost use Rattle.reports.specs.Link.{index_text, stopped_line, said_line, answer_line, judged_line, link_line};
 
-use encoding::put::{Put, put_bytes};
-use links::{CovenantLinkSummary, Links, verify_covenant_links};
+use encoding::put::put_bytes;
+use links::{CovenantLinkSummary, verify_covenant_links};
 use refusal::{Refusal, carried_by, number};
-use sheets::{SheetRead, judge_transaction};
+use sheets::judge_transaction;
 use texts::{put_field, put_refused, put_text};
 
 // The report takes so many bytes of each sheet.
 const LONGEST: usize = 32_768;
 
+// The longest line has three numbers of 20 digits.
+type Line = [u8; 89];
+
 // The line of a summary; returns where it ends.
-fn put_summary(d: &mut [u8], s: CovenantLinkSummary) -> usize
-    requires { 89 ≤ length d.old }
+fn put_summary(d: &mut Line, s: CovenantLinkSummary) -> usize
     ensures value { result ≡ end_of 0 (said_line (summary s.inputs_checked s.linked_outputs s.name_inputs)) (length d.old) }
     ensures d_after { d.new ≡ laid 0 (said_line (summary s.inputs_checked s.linked_outputs s.name_inputs)) d.old }
 {
@@ -36,18 +37,14 @@ fn put_index(d: &mut [u8], at: usize, number: u8, index: usize) -> usize
     ensures value { result ≡ end_of at (index_text number index) (length d.old) }
     ensures d_after { d.new ≡ laid at (index_text number index) d.old }
 {
-    if number < 12 {
-        return at;
+    match number {
+        12..=26 => put_field(d, at, b" at ", index as u64),
+        _ => at,
     }
-    if 26 < number {
-        return at;
-    }
-    put_field(d, at, b" at ", index as u64)
 }
 
 // The line of a refusal of this number, with the index where it has one; returns where it ends.
-fn put_numbered(d: &mut [u8], number: u8, index: usize) -> usize
-    requires { 53 ≤ length d.old }
+fn put_numbered(d: &mut Line, number: u8, index: usize) -> usize
     ensures value { result ≡ end_of 0 (stopped_line number (index ∷ [])) (length d.old) }
     ensures d_after { d.new ≡ laid 0 (stopped_line number (index ∷ [])) d.old }
 {
@@ -57,45 +54,37 @@ fn put_numbered(d: &mut [u8], number: u8, index: usize) -> usize
 }
 
 // The line of a refusal; returns where it ends.
-fn put_stopped(d: &mut [u8], refusal: Refusal) -> usize
-    requires { 53 ≤ length d.old }
+fn put_stopped(d: &mut Line, refusal: Refusal) -> usize
     ensures value { result ≡ end_of 0 (stopped_line (number_of refusal) (carried refusal)) (length d.old) }
     ensures d_after { d.new ≡ laid 0 (stopped_line (number_of refusal) (carried refusal)) d.old }
 {
-    let carried = carried_by(refusal);
-    put_numbered(d, number(refusal), carried.first)
+    put_numbered(d, number(refusal), carried_by(refusal).first)
 }
 
 // The line of the verifier's answer; returns where it ends.
-fn put_answer(d: &mut [u8], tx: &[u8], coins: &[u8]) -> usize
-    requires { 89 ≤ length d.old }
+fn put_answer(d: &mut Line, tx: &[u8], coins: &[u8]) -> usize
     ensures value { result ≡ end_of 0 (answer_line (verify_of tx.now coins.now)) (length d.old) }
     ensures d_after { d.new ≡ laid 0 (answer_line (verify_of tx.now coins.now)) d.old }
 {
-    let verified = verify_covenant_links(tx, coins);
-    let links = verified.links;
-    match links {
-        Links::Linked(s) => put_summary(d, s),
-        Links::Refused { refusal, side: _ } => put_stopped(d, refusal),
+    match verify_covenant_links(tx, coins) {
+        Ok(summary) => put_summary(d, summary),
+        Err(refused) => put_stopped(d, refused.refusal),
     }
 }
 
 // The line where the coin sheet is too long: the transaction sheet is judged first; returns where it ends.
-fn put_too_long(d: &mut [u8], tx: &[u8]) -> usize
-    requires { 53 ≤ length d.old }
+fn put_too_long(d: &mut Line, tx: &[u8]) -> usize
     ensures value { result ≡ end_of 0 (judged_line (transaction_of tx.now) (refused_line 28)) (length d.old) }
     ensures d_after { d.new ≡ laid 0 (judged_line (transaction_of tx.now) (refused_line 28)) d.old }
 {
-    let read = judge_transaction(tx);
-    match read {
-        SheetRead::Counts(_, _) => put_refused(d, 28),
-        SheetRead::Refused { refusal, side: _ } => put_stopped(d, refusal),
+    match judge_transaction(tx) {
+        Ok(_) => put_refused(d, 28),
+        Err(first) => put_stopped(d, first.refusal),
     }
 }
 
 // The line of two sheets; returns where it ends.
-fn put_line(d: &mut [u8], tx: &[u8], coins: &[u8]) -> usize
-    requires { 89 ≤ length d.old }
+fn put_line(d: &mut Line, tx: &[u8], coins: &[u8]) -> usize
     ensures value { result ≡ end_of 0 (link_line tx.now coins.now) (length d.old) }
     ensures d_after { d.new ≡ laid 0 (link_line tx.now coins.now) d.old }
 {
@@ -109,7 +98,7 @@ fn put_line(d: &mut [u8], tx: &[u8], coins: &[u8]) -> usize
 }
 
 // The line at the start of `out`, its newline with it: all of it, or nothing and the refusal.
-pub fn link_line(tx: &[u8], coins: &[u8], out: &mut [u8]) -> Put
+pub fn link_line(tx: &[u8], coins: &[u8], out: &mut [u8]) -> Result<usize, Refusal>
     ensures result_value { put_paper result ≡ put_answer 0 (link_line tx.now coins.now) out.old }
     ensures out_after { out.new ≡ laid 0 (link_line tx.now coins.now) out.old }
 {

@@ -1,12 +1,12 @@
 -- One step of a run is the first of the run, of whatever the run is.
-use Rattle.std.proofs.Common.{◌≡◌, ℕ, suc, Bool, true, false, eqb, List, [], ◌∷◌, length, refl, ap, ◌∙◌, arith}
+use Rattle.std.proofs.Common.{◌≡◌, ℕ, suc, Bool, true, false, eqb, List, [], ◌∷◌, length, refl, ap, ◌∙◌}
 use Rattle.words.specs.Buffers.{pick}
 use Rattle.refusal.specs.Outcome.{Outcome, ok, err}
 use Rattle.runs.specs.Run.{End, ended, stopped, onward, run_at, Advance, handed, last, advanced, step_at}
 
 -- no step both hands out something and is the last
 pub apart : {A : Type 0} {step : Advance A} {a : A} {next : ℕ} {e : End} → step ≡ handed a next → step ≡ last e → ⊥
-apart p q = let z : ◌≡◌ {A = ℕ} 0 1 = cc in omega arith
+apart p q = cc
 
 module _ {A : Type 0} (read : ℕ → Outcome A) (n : ℕ) (s : List ℕ) (at : ℕ) where
   -- a step that was the last: the run ends there

@@ -1,16 +1,16 @@
 -- A run of covenants has one reading: demand 3; and what its steps come to. The statements; their proofs are in
 -- proofs/Theorems.antt.
-use Rattle.std.specs.Prelude.{◌≡◌, ℕ, zero, suc, ◌*◌, ◌≤◌, List, [], ◌++◌, length}
+use Rattle.std.specs.Prelude.{◌≡◌, ℕ, zero, suc, ◌*◌, ◌≤◌, List, [], ◌++◌, length, Some, Ok}
 use Rattle.refusal.specs.Outcome.{ok}
 use Rattle.encoding.specs.Joined.{All, joined}
 use Rattle.encoding.specs.Theorems.{Lent}
 use Rattle.covenants.specs.Covenant.{Reading, Skimmed, covenant_at}
+use Rattle.covenants.specs.declared.Accepted.{Accepted}
 use Rattle.covenants.specs.Theorems.{Meant, written, Writable}
 use Rattle.runs.specs.Run.{End, onward, run_at, handed, last}
 use Rattle.runs.specs.Covenants.{covenant_step}
 use Rattle.runs.specs.Paper.{run_step_paper, run_start}
 use Rattle.runs.specs.OneReading.{PrefixFree}
-use Rattle.runs.specs.declared.Step.{Step}
 use Rattle.runs.specs.declared.Run.{Run}
 
 -- ---- demand 3
@@ -55,8 +55,8 @@ StepsAreTheRun = (n limit : ℕ) (s : List ℕ) (at count : ℕ) → StepIsFirst
 abbrev pub Reached : List ℕ → ℕ → Run → Type 0
 Reached s zero r = r ≡ run_start
 Reached s (suc k) r =
-    (before : Run) × (limit : ℕ) × (kind : ℕ) × (items : ℕ) × (used : ℕ) × Reached s k before
-    × (run_step_paper (Step.Covenant kind items used r) ≡ covenant_step limit s before.cursor.position before.count)
+    (before : Run) × (limit : ℕ) × (covenant : Accepted) × Reached s k before
+    × (run_step_paper before.count (Ok (Some (covenant, r))) ≡ covenant_step limit s before.cursor.position before.count)
 
 -- from the start the count is the number of covenants that were handed out, and not that number modulo 2^64: each takes
 -- two of the bytes at least

@@ -8,37 +8,22 @@ ghost use Rattle.runs.specs.Run.{run_said};
 ghost use Rattle.runs.specs.Covenants.{default_allowance, covenant_run, covenant_step};
 ghost use Rattle.runs.specs.Paper.{run_step_paper, run_end_paper, run_start};
 
-use covenants::{Covenant, ReadCovenant};
+use covenants::{Accepted, Covenant};
 use encoding::read::Cursor;
 use refusal::Stop;
 
 // A place in a run, and how many covenants came before it.
-#[derive(Clone, Copy)]
+#[derive(Clone, Copy, PartialEq, Eq)]
 pub struct Run {
     pub cursor: Cursor,
     pub count: usize,
 }
 
-#[derive(Clone, Copy)]
-pub enum Step {
-    Covenant {
-        kind: u8,
-        count: usize,
-        used: usize,
-        run: Run,
-    },
-    Ended(usize),
-    Refused {
-        stop: Stop,
-        count: usize,
-    },
-}
-
-// How a run ended, with the number of its covenants.
-#[derive(Clone, Copy)]
-pub enum RunEnd {
-    Ended(usize),
-    Refused { stop: Stop, count: usize },
+// The refusal that ended a run, and how many covenants came before it.
+#[derive(Clone, Copy, PartialEq, Eq)]
+pub struct RunStop {
+    pub stop: Stop,
+    pub count: usize,
 }
 
 impl Run {
@@ -54,75 +39,47 @@ impl Run {
         }
     }
 
-    // The next covenant, or the end.
-    pub fn next(self, s: &[u8]) -> Step
-        ensures { run_step_paper result ≡ covenant_step default_allowance s.now self.cursor.position self.count }
+    // The next covenant, and the run after it; nothing at the end.
+    pub fn next(self, s: &[u8]) -> Result<Option<(Accepted, Run)>, RunStop>
+        ensures { run_step_paper self.count result ≡ covenant_step default_allowance s.now self.cursor.position self.count }
     {
         self.next_with_limit(s, Run::ALLOWANCE)
     }
 
     // The same under an allowance that the caller names.
-    pub fn next_with_limit(self, s: &[u8], limit: usize) -> Step
-        ensures { run_step_paper result ≡ covenant_step limit s.now self.cursor.position self.count }
+    pub fn next_with_limit(self, s: &[u8], limit: usize) -> Result<Option<(Accepted, Run)>, RunStop>
+        ensures { run_step_paper self.count result ≡ covenant_step limit s.now self.cursor.position self.count }
     {
-        let cursor = self.cursor;
-        if cursor.position == s.len() {
-            return Step::Ended(self.count);
+        if self.cursor.position == s.len() {
+            return Ok(None);
         }
-        match Covenant::read(cursor, s, limit) {
-            ReadCovenant::Accepted {
-                kind,
-                count,
-                used,
-                next,
-            } => {
-                let passed = std::num::wrapping_add_usize(self.count, 1);
-                Step::Covenant {
-                    kind,
-                    count,
-                    used,
-                    run: Run {
-                        cursor: next,
-                        count: passed,
-                    },
-                }
+        match Covenant::read(self.cursor, s, limit) {
+            Ok((accepted, cursor)) => {
+                let count = self.count.wrapping_add(1);
+                Ok(Some((accepted, Run { cursor, count })))
             }
-            ReadCovenant::Refused(stop) => Step::Refused {
+            Err(stop) => Err(RunStop {
                 stop,
                 count: self.count,
-            },
+            }),
         }
     }
 }
 
-// A whole run, read to its end.
-pub fn read_run(s: &[u8]) -> RunEnd
+// A whole run, read to its end: how many covenants it has.
+pub fn read_run(s: &[u8]) -> Result<usize, RunStop>
     ensures { run_end_paper result ≡ run_said (covenant_run default_allowance s.now) }
 {
     read_run_with_limit(s, Run::ALLOWANCE)
 }
 
 // The same under an allowance for each covenant that the caller names.
-pub fn read_run_with_limit(s: &[u8], limit: usize) -> RunEnd
+pub fn read_run_with_limit(s: &[u8], limit: usize) -> Result<usize, RunStop>
     ensures { run_end_paper result ≡ run_said (covenant_run limit s.now) }
 {
     let mut run = Run::start();
-    loop {
-        match run.next_with_limit(s, limit) {
-            Step::Covenant {
-                kind: _,
-                count: _,
-                used: _,
-                run: after,
-            } => {
-                run = after;
-            }
-            Step::Ended(count) => {
-                return RunEnd::Ended(count);
-            }
-            Step::Refused { stop, count } => {
-                return RunEnd::Refused { stop, count };
-            }
-        }
+    while let Some((_, after)) = run.next_with_limit(s, limit)? {
+        run = after;
     }
+    Ok(run.count)
 }

@@ -1,5 +1,5 @@
 -- Files of hash vectors: what a vector says, and when the code agrees with it. tools/make_vectors.py writes the files.
-use Rattle.std.specs.Prelude.{◌≡◌, Bool, true, false, List, [], ◌∷◌, ℕ, zero, suc, ◌+◌, ◌-◌, ◌*◌, ◌%◌, ◌≤◌, ltb, eqb, length, take, drop, get_or}
+use Rattle.std.specs.Prelude.{◌≡◌, Bool, true, not, List, [], ◌∷◌, ℕ, zero, suc, ◌+◌, ◌-◌, ◌*◌, ◌%◌, ◌≤◌, ltb, eqb, length, take, drop, get_or, Option, Some, None}
 use Rattle.words.specs.Words.{le}
 use Rattle.words.specs.Buffers.{pick}
 use Rattle.words.specs.Sameness.{same}
@@ -37,45 +37,45 @@ unfoldable pub made : ℕ → List ℕ
 made n = ruled n 0 n
 
 -- the vector at a place whose message has n bytes
-unfoldable pub message_at : List ℕ → ℕ → ℕ → Vector
+unfoldable pub message_at : List ℕ → ℕ → ℕ → Option Vector
 message_at s at n =
     pick (eqb (get_or s at 0) 0)
-    (pick (ltb (length s - at - 41) n) Vector.Broken (Vector.Given (at + 9) n (at + 41 + n)))
+    (pick (ltb (length s - at - 41) n) None (Some (Vector.Given (at + 9) n (at + 41 + n))))
     (pick (eqb (get_or s at 0) 1)
-    (pick (ltb 66000 n) Vector.Broken (Vector.Made n (at + 41)))
-    Vector.Broken)
+    (pick (ltb 66000 n) None (Some (Vector.Made n (at + 41))))
+    None)
 
 -- the vector at a place: how its message is given, the message's length, its bytes where they are given, the digest
-unfoldable pub vector_at : Function → List ℕ → ℕ → Vector
+unfoldable pub vector_at : Function → List ℕ → ℕ → Option Vector
 vector_at f s at =
     let n : ℕ = le (take 8 (drop (at + 1) s)) in
-    pick (ltb (length s - at) 41) Vector.Broken
-    (pick (takes f n) (message_at s at n) Vector.Broken)
+    pick (ltb (length s - at) 41) None
+    (pick (takes f n) (message_at s at n) None)
 
 -- where the parts of a vector lie in l bytes
-abbrev pub Inside : ℕ → Vector → Type 0
-Inside l (Vector.Given start n next) = (start + n + 32 ≡ next) × (next ≤ l)
-Inside l (Vector.Made n next) = (n ≤ 66000) × (32 ≤ next) × (next ≤ l)
-Inside l Vector.Broken = Unit {0}
+abbrev pub Inside : ℕ → Option Vector → Type 0
+Inside l (Some (Vector.Given start n next)) = (start + n + 32 ≡ next) × (next ≤ l)
+Inside l (Some (Vector.Made n next)) = (n ≤ 66000) × (32 ≤ next) × (next ≤ l)
+Inside l None = Unit {0}
 
 -- the message of a vector has n bytes
-abbrev pub Sized : ℕ → Vector → Type 0
-Sized n (Vector.Given start m next) = m ≡ n
-Sized n (Vector.Made m next) = m ≡ n
-Sized n Vector.Broken = Unit {0}
+abbrev pub Sized : ℕ → Option Vector → Type 0
+Sized n (Some (Vector.Given start m next)) = m ≡ n
+Sized n (Some (Vector.Made m next)) = m ≡ n
+Sized n None = Unit {0}
 
 -- the function takes the message of a vector
-abbrev pub Takes : Function → Vector → Type 0
-Takes f (Vector.Given start n next) = takes f n ≡ true
-Takes f (Vector.Made n next) = takes f n ≡ true
-Takes f Vector.Broken = Unit {0}
+abbrev pub Takes : Function → Option Vector → Type 0
+Takes f (Some (Vector.Given start n next)) = takes f n ≡ true
+Takes f (Some (Vector.Made n next)) = takes f n ≡ true
+Takes f None = Unit {0}
 
 -- what is told of a vector with the message m that ends at `next`
 unfoldable pub compared : Function → List ℕ → List ℕ → ℕ → Judged
 compared f s m next =
-    record { whole = true; differs = pick (same (hash_of f m) (take 32 (drop (next - 32) s))) 0 1; next = next }
+    record { differs = not (same (hash_of f m) (take 32 (drop (next - 32) s))); next = next }
 
-unfoldable pub judged_of : Function → List ℕ → Vector → Judged
-judged_of f s (Vector.Given start n next) = compared f s (take n (drop start s)) next
-judged_of f s (Vector.Made n next) = compared f s (made n) next
-judged_of f s Vector.Broken = record { whole = false; differs = 0; next = 0 }
+unfoldable pub judged_of : Function → List ℕ → Option Vector → Option Judged
+judged_of f s (Some (Vector.Given start n next)) = Some (compared f s (take n (drop start s)) next)
+judged_of f s (Some (Vector.Made n next)) = Some (compared f s (made n) next)
+judged_of f s None = None

@@ -2,7 +2,6 @@
 ghost use Rattle.std.specs.Prelude.{◌≡◌};
 ghost use Rattle.samples.specs.Viewed.{viewed_transaction, viewed_coins};
 
-use crate::say;
 use sheets::viewer::{has_item, item};
 use std::io;
 
@@ -38,44 +37,37 @@ fn coin() -> [u8; 57]
     coins
 }
 
-fn tell_whether(rt: &impl Print, there: bool) -> io::Result<()> {
-    if there {
-        return rt.write_all(b": yes, ");
-    }
-    rt.write_all(b": no, ")
-}
-
-fn tell_item<'a>(
+fn tell_item(
     rt: &impl Print,
-    tx: &'a [u8],
-    coins: &'a [u8],
+    tx: &[u8],
+    coins: &[u8],
     side: u8,
     index: usize,
     number: usize,
 ) -> io::Result<()> {
-    let part = item(tx, coins, side, index, number);
-    say(rt, b"side ", b"", side as u64, b" record ")?;
-    say(rt, b"", b"", index as u64, b" item ")?;
-    say(rt, b"", b"", number as u64, b"")?;
-    tell_whether(rt, has_item(tx, coins, side, index, number))?;
-    say(rt, b"", b"", part.len() as u64, b" bytes (")?;
-    rt.write_all(part)?;
-    rt.write_all(b")\n")
+    let bytes = item(tx, coins, side, index, number);
+    let there = if has_item(tx, coins, side, index, number) {
+        "yes"
+    } else {
+        "no"
+    };
+    print!(rt;
+        "side {side} record {index} item {number}: {there}, {} bytes (",
+        bytes.len()
+    )?;
+    rt.write_all(bytes)?;
+    println!(rt; ")")
 }
 
-// Both items of a side's record, and one that it does not have.
-fn run_side<'a>(rt: &impl Print, tx: &'a [u8], coins: &'a [u8], side: u8) -> io::Result<()> {
-    tell_item(rt, tx, coins, side, 0, 0)?;
-    tell_item(rt, tx, coins, side, 0, 1)?;
-    tell_item(rt, tx, coins, side, 0, 2)
-}
-
-// The two sides, another side, and a record that is not there.
+// The two sides and another one, of each both items of a record and one that it does not have; and a record that is not
+// there.
 pub(crate) fn run_viewer(rt: &impl Print) -> io::Result<()> {
     let tx = transaction();
     let coins = coin();
-    run_side(rt, &tx, &coins, 0)?;
-    run_side(rt, &tx, &coins, 1)?;
-    run_side(rt, &tx, &coins, 2)?;
+    for side in 0..3 {
+        for number in 0..3 {
+            tell_item(rt, &tx, &coins, side, 0, number)?;
+        }
+    }
     tell_item(rt, &tx, &coins, 0, 1, 0)
 }

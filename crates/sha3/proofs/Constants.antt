@@ -6,11 +6,11 @@ use mathlib.Core.List.{List, [], ◌∷◌}
 use mathlib.Core.Bool.{Bool, true}
 use Prim.Native.Nat.{ℕ, zero, suc, ◌+◌, ◌-◌, ◌*◌, ◌%◌, ◌^◌, ◌≤◌, ◌<◌}
 use native.Mathlib.Nat.{add-zero, zero-add, suc-add, mod-eq_of_lt, le_of_suc-le-suc, not-suc-le-zero}
-use native.Mathlib.Numerals.{add-one}
 use native.Mathlib.Omega.{arith}
 use lib.Dec.{T, eqb, eqb→eq}
 use lib.ListN.{length, get_or}
-use Rattle.sha3.specs.Keccak.{theta, rho, pi, chi, shifted, register, rc, constant_up_to, round_constant, constant_added, iota, rnd, rounds}
+use Rattle.std.specs.List.{fold}
+use Rattle.sha3.specs.Keccak.{theta, rho, pi, chi, shifted, register, rc, constant_up_to, round_constant, constant_added, iota, rnd, rounds, keccak_p}
 use Rattle.words.proofs.Table.{both, both_left, both_right}
 
 pub record RoundConstants (table : List ℕ) : Type 0 where
@@ -59,9 +59,24 @@ from (x ∷ xs) i t h (suc k) l =
 pub computed : (table : List ℕ) → length table ≡ 24 → T (right (register 0) table) → RoundConstants table
 computed table n t = record { each = λ i h. from table 0 t (omega arith) i (omega arith) ∙ ap round_constant (zero-add i) }
 
--- one round more
-pub one_more :
-    (table a s : List ℕ) (i : ℕ) → RoundConstants table → i < 24 → s ≡ rounds i a →
-    constant_added (get_or table i 0) (chi (pi (rho (theta s)))) ≡ rounds (i + 1) a
+-- a round with the table's constant
+abbrev pub round_with : List ℕ → ℕ → List ℕ
+round_with s rc = constant_added rc (chi (pi (rho (theta s))))
+
+-- the rounds with the constants of a table, from round i on
+rounds-from : (a s xs : List ℕ) (i : ℕ) → ((k : ℕ) → k < length xs → get_or xs k 0 ≡ round_constant (i + k)) → s ≡ rounds i a → fold round_with s xs ≡ rounds (i + length xs) a
 unfolding iota rnd rounds
-one_more table a s i r h e = rw (add-one, r.each i h, e)
+rounds-from a s [] i each e = rw add-zero e
+rounds-from a s (x ∷ xs) i each e =
+    let here : x ≡ round_constant i = each 0 (omega arith) ∙ ap round_constant (add-zero i) in
+    let place : i + length (x ∷ xs) ≡ suc i + length xs = omega arith in
+    let next = λ (k : ℕ) (l : k < length xs). let turn : i + suc k ≡ suc i + k = omega arith in each (suc k) (omega arith) ∙ ap round_constant turn in
+    rw place (rounds-from a (round_with s x) xs (suc i) next (rw (here, e)))
+
+pub all-rounds :
+    (a : List ℕ) {r xs table : List ℕ} → r ≡ fold round_with a xs → xs ≡ table → length table ≡ 24 → T (right (register 0) table) → r ≡ keccak_p a
+unfolding rounds keccak_p
+all-rounds a {r} {xs} {table} e f n t =
+    let all : 0 + length table ≡ 24 = omega arith in
+    let each = λ (k : ℕ) (l : k < length table). (computed table n t).each k (omega arith) ∙ ap round_constant (sym (zero-add k)) in
+    e ∙ ap (fold round_with a) f ∙ rounds-from a a table 0 each refl ∙ ap (λ (k : ℕ). rounds k a) all

@@ -1,15 +1,15 @@
 -- The padding of a message of whole bytes, as bytes.
 use mathlib.Core.Path.{◌≡◌, refl, ap, sym, ◌∙◌}
 use mathlib.Core.List.{List, [], ◌∷◌, ◌++◌, append_assoc}
-use Prim.Native.Nat.{ℕ, zero, suc, ◌+◌, ◌-◌, ◌*◌, ◌%◌, ◌≤◌, ◌<◌}
+use Prim.Native.Nat.{ℕ, zero, suc, ◌+◌, ◌-◌, ◌*◌, ◌%◌, ◌<◌}
 use native.Mathlib.Omega.{arith}
 use lib.Bits.{bit_or}
-use lib.ListN.{length, drop, get_or, set, replicate, length-drop, length-append, length-replicate}
-use lib.Seq.{drop-append-le, set_at, get_or_at}
-use Rattle.words.specs.Buffers.{laid}
+use lib.ListN.{length, drop, get_or, set, replicate, length-append, length-replicate}
+use Rattle.std.proofs.lemmas.List.{drop-replicate}
+use lib.Seq.{set_at, get_or_at}
 use Rattle.sha3.specs.Sha3.{bits, bits_of, pad101, padded, suffixed}
-use Rattle.words.proofs.Over.{zeros, over_zeros}
-use Rattle.sha3.proofs.Bits.{bits-append, length-bits_of, drop_bits, eight-more}
+use Rattle.words.proofs.Over.{zeros}
+use Rattle.sha3.proofs.Bits.{bits-append, length-bits_of, eight-more}
 
 -- the q bytes that the bits 01 and pad10*1 make (FIPS 202, B.2, Table 6)
 unfoldable pub padding : ℕ → List ℕ
@@ -52,11 +52,18 @@ length-padding zero = refl
 length-padding (suc zero) = refl
 length-padding (suc (suc q)) = ap suc (length-append (replicate q 0) (0x80 ∷ []) ∙ simp length-replicate (omega arith))
 
--- what is left of it at a place of the message
-pub rest : (m : List ℕ) (at : ℕ) → at ≤ length m → drop (8 * at) (padded_message m) ≡ bits_of 8 (drop at m ++ padding (136 - length m % 136))
-rest m at h =
+-- its length
+pub length-padded : (m : List ℕ) → length (padded_message m) ≡ 8 * (length m + (136 - length m % 136))
+length-padded m =
     let p : List ℕ = padding (136 - length m % 136) in
-    ap (drop (8 * at)) (padded-bytes m) ∙ drop_bits 8 at (m ++ p) ∙ ap (bits_of 8) (drop-append-le at m p h)
+    ap length (padded-bytes m) ∙ length-bits_of 8 (m ++ p) ∙ ap (λ (n : ℕ). 8 * n) (length-append m p ∙ omega (arith, length-padding (136 - length m % 136)))
+
+-- a whole block at the front stands before the padding of what is left
+pub padded-more : (b m : List ℕ) → length b ≡ 136 → padded_message (b ++ m) ≡ bits_of 8 b ++ padded_message m
+padded-more b m long =
+    let p : List ℕ = padding (136 - length m % 136) in
+    let e : length (b ++ m) % 136 ≡ length m % 136 = omega (arith, length-append b m) in
+    padded-bytes (b ++ m) ∙ rw (e, append_assoc b m p) (bits-append 8 b (m ++ p) ∙ ap (λ (q : List ℕ). bits_of 8 b ++ q) (sym (padded-bytes m)))
 
 -- the bytes l and then zeros, closed by 0x06 after l and 0x80 in the last byte, are l and its padding
 close_block :
@@ -75,14 +82,13 @@ close_block l (suc q) h =
     rw (f, set_at p 0 [] (bit_or (get_or (p ++ 0 ∷ []) 135 0) 128) 135 e, get_or_at p 0 [] 0 135 e)
     (append_assoc l (6 ∷ replicate q 0) (0x80 ∷ []))
 
--- what is left of the message after whole blocks, laid over zeros and closed, is what is left of the padded_message
--- message
+-- fewer bytes than a block laid over zeros, and closed, are the whole string
 pub last-bits :
-    (m : List ℕ) (at : ℕ) (l b : List ℕ) → at % 136 ≡ 0 → at ≤ length m → length m < at + 136 → l ≡ drop at m → b ≡ laid 0 l (replicate 136 0) →
-    bits_of 8 (set (set b (length m - at) 6) 135 (bit_or (get_or (set b (length m - at) 6) 135 0) 128)) ≡ drop (8 * at) (padded_message m)
-last-bits m at l b h k j e f =
-    let q : ℕ = 135 - length m % 136 in
-    let n : length m - at ≡ length l = sym (ap length e ∙ length-drop at m) in
-    let g : b ≡ l ++ replicate (suc q) 0 = f ∙ over_zeros l (suc q) 136 (omega arith) in
-    let p : suc q ≡ 136 - length m % 136 = omega arith in
-    rw (n, g, close_block l q (omega arith), rest m at k, e, p)
+    (m : List ℕ) {l : List ℕ} → length m < 136 → l ≡ m →
+    let b : List ℕ = set (l ++ drop (length m) (replicate 136 0)) (length m) 6 in
+    bits_of 8 (set b 135 (bit_or (get_or b 135 0) 128)) ≡ padded_message m
+last-bits m few e =
+    let q : ℕ = 135 - length m in
+    let n : 136 - length m ≡ suc q = omega arith in
+    let k : 136 - length m % 136 ≡ suc q = omega arith in
+    rw (e, drop-replicate {X = ℕ} (length m) 136 0, n, close_block m q (omega arith)) (sym (padded-bytes m ∙ ap (λ (j : ℕ). bits_of 8 (m ++ padding j)) k))

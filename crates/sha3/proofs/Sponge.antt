@@ -1,19 +1,21 @@
 -- Laws of the sponge's lists.
 use mathlib.Core.Path.{◌≡◌, refl, ap, ap₂, sym, ◌∙◌}
 use mathlib.Core.List.{List, [], ◌∷◌, ◌++◌}
-use Prim.Native.Nat.{ℕ, zero, suc, ◌+◌, ◌-◌, ◌*◌, ◌/◌, ◌%◌, ◌≤◌, ◌<◌}
-use native.Mathlib.Nat.{le_of_suc-le-suc, not-suc-le-zero}
+use Prim.Native.Nat.{ℕ, zero, suc, ◌+◌, ◌*◌, ◌/◌, ◌≤◌, ◌<◌}
+use native.Mathlib.Nat.{le_of_suc-le-suc, not-suc-le-zero, mul-zero, mul-suc}
+use native.Mathlib.Numerals.{add-one}
 use native.Mathlib.Omega.{arith}
 use lib.Bits.{bit_xor}
-use lib.ListN.{length, take, drop, get_or, set, length-drop, length-append, take-append-drop}
-use lib.Seq.{drop-drop, take-length}
+use lib.ListN.{length, take, drop, get_or, set, length-append, take-append-drop}
+use lib.Seq.{drop_at, drop-drop, take-length}
+use Rattle.std.specs.Simd.{first_chunks}
 use Rattle.words.specs.Words.{le, lanes}
 use Rattle.words.proofs.Le.{part-long}
-use Rattle.words.proofs.Lanes.{length-lanes, lane-at, lanes-append}
+use Rattle.words.proofs.Lanes.{length-lanes, lane-at}
 use Rattle.sha3.specs.Keccak.{keccak_p}
-use Rattle.sha3.specs.Sha3.{bits_of, packed, mixed, block, absorbed}
-use Rattle.sha3.proofs.Bits.{bits-append, length-bits_of, packed-append}
-use Rattle.sha3.proofs.Padding.{padding, padded_message, padded-bytes, length-padding, rest}
+use Rattle.sha3.specs.Sha3.{bits_of, mixed, block, absorbed}
+use Rattle.sha3.proofs.Bits.{length-bits_of, packed-append}
+use Rattle.sha3.proofs.Padding.{padded_message, padded-more, length-padded}
 
 pub mixed-nil : (s : List ℕ) → mixed s [] ≡ s
 unfolding mixed
@@ -36,54 +38,55 @@ mixed-all s p n e = rw (e, take-length)
 
 -- one lane more of a block, as it is loaded
 pub mixed-lane :
-    (s b : List ℕ) {i i' next w : ℕ} → i < 17 → i' ≡ suc i → next ≡ 8 * i → 17 ≤ length s → w ≡ le (take 8 (drop next b)) →
-    set (mixed s (take i (lanes 17 b))) i (bit_xor (get_or (mixed s (take i (lanes 17 b))) i 0) w) ≡ mixed s (take i' (lanes 17 b))
-mixed-lane s b {i} {i'} {next} {w} few more place long loaded =
+    (s b : List ℕ) {i w : ℕ} → i < 17 → 17 ≤ length s → w ≡ le (take 8 (drop (8 * i) b)) →
+    set (mixed s (take i (lanes 17 b))) i (bit_xor (get_or (mixed s (take i (lanes 17 b))) i 0) w) ≡ mixed s (take (i + 1) (lanes 17 b))
+mixed-lane s b {i} {w} few long loaded =
     let p : List ℕ = lanes 17 b in
     let n : length p ≡ 17 = length-lanes 17 b in
-    let e : w ≡ get_or p i 0 = loaded ∙ ap (λ (k : ℕ). le (take 8 (drop k b))) place ∙ sym (lane-at 17 b i few) in
-    rw (more, e) (mixed-more i s p (omega arith) (omega arith))
+    let e : w ≡ get_or p i 0 = loaded ∙ sym (lane-at 17 b i few) in
+    rw (add-one, e) (mixed-more i s p (omega arith) (omega arith))
 
--- and all of them: the block is a part of the message
-pub mixed-lanes :
-    (s m : List ℕ) (at i : ℕ) → i ≡ 17 → at + 136 ≤ length m →
-    mixed s (take i (lanes 17 (take 136 (drop at m)))) ≡ mixed s (lanes 17 (drop at m))
-mixed-lanes s m at i e h =
-    let b : List ℕ = take 136 (drop at m) in
-    let n : length b ≡ 136 = part-long m at 136 h in
-    mixed-all s (lanes 17 b) i (e ∙ sym (length-lanes 17 b))
-    ∙ ap (mixed s) (sym (lanes-append 17 b (drop 136 (drop at m)) (omega arith)) ∙ ap (lanes 17) (take-append-drop 136 (drop at m)))
+-- what is absorbed for the message m, from the state s on
+abbrev pub absorbs : List ℕ → List ℕ → List ℕ
+absorbs s m = absorbed keccak_p 1088 (length (padded_message m) / 1088) s (padded_message m)
 
--- the blocks that are left at a place of the message
-abbrev pub left : List ℕ → ℕ → ℕ
-left m at = length m / 136 + 1 - at / 136
+-- a whole block at the front
+pub absorbs-block : (s b m : List ℕ) → length b ≡ 136 → absorbs s (b ++ m) ≡ absorbs (block keccak_p 1088 s (bits_of 8 b)) m
+unfolding block absorbed
+absorbs-block s b m long =
+    let p : List ℕ = padded_message m in
+    let whole : length (bits_of 8 b) ≡ 1088 = length-bits_of 8 b ∙ omega (arith, long) in
+    let count : length (bits_of 8 b ++ p) / 1088 ≡ suc (length p / 1088) = omega (arith, length-append (bits_of 8 b) p) in
+    ap (λ (q : List ℕ). absorbed keccak_p 1088 (length q / 1088) s q) (padded-more b m long)
+    ∙ ap (λ (n : ℕ). absorbed keccak_p 1088 n s (bits_of 8 b ++ p)) count
+    ∙ ap₂ (absorbed keccak_p 1088 (length p / 1088))
+    (ap (λ (w : List ℕ). keccak_p (mixed s w)) (packed-append 64 17 (bits_of 8 b) p (omega arith)))
+    (drop_at (bits_of 8 b) p 1088 whole)
 
-module _ (m : List ℕ) where
-  -- as many as the padded_message message has
-  pub left-all : left m 0 ≡ length (padded_message m) / 1088
-  left-all =
-      let p : List ℕ = padding (136 - length m % 136) in
-      let n : length (padded_message m) ≡ 8 * (length m + length p) = ap length (padded-bytes m) ∙ length-bits_of 8 (m ++ p) ∙ rw length-append in
-      omega (arith, length-padding (136 - length m % 136))
+-- what is left after whole blocks is one block
+pub absorbs-last : (s m : List ℕ) → length m < 136 → absorbs s m ≡ block keccak_p 1088 s (padded_message m)
+unfolding absorbed
+absorbs-last s m few =
+    let e : length (padded_message m) / 1088 ≡ 1 = omega (arith, length-padded m) in
+    rw e
 
-  pub absorbed-more :
-      (s : List ℕ) (at : ℕ) → at % 136 ≡ 0 → at + 136 ≤ length m →
-      absorbed keccak_p 1088 (left m (at + 136)) (block keccak_p 1088 s (bits_of 8 (drop at m))) (drop (8 * (at + 136)) (padded_message m))
-      ≡ absorbed keccak_p 1088 (left m at) s (drop (8 * at) (padded_message m))
-  unfolding block absorbed
-  absorbed-more s at h k =
-      let p : List ℕ = padding (136 - length m % 136) in
-      let d : drop (8 * at) (padded_message m) ≡ bits_of 8 (drop at m) ++ bits_of 8 p = rest m at (omega arith) ∙ bits-append 8 (drop at m) p in
-      let n : 64 * 17 ≤ length (bits_of 8 (drop at m)) = rw (length-bits_of 8, length-drop) (omega arith) in
-      let b : block keccak_p 1088 s (bits_of 8 (drop at m)) ≡ block keccak_p 1088 s (drop (8 * at) (padded_message m)) =
-      ap (λ (w : List ℕ). keccak_p (mixed s w)) (sym (ap (packed 64 17) d ∙ packed-append 64 17 (bits_of 8 (drop at m)) (bits_of 8 p) n)) in
-      let f : 8 * (at + 136) ≡ 8 * at + 1088 = omega arith in
-      let e : left m at ≡ suc (left m (at + 136)) = omega arith in
-      ap₂ (absorbed keccak_p 1088 (left m (at + 136))) b (ap (λ (i : ℕ). drop i (padded_message m)) f ∙ sym (drop-drop 1088 (8 * at) (padded_message m)))
-      ∙ ap (λ (i : ℕ). absorbed keccak_p 1088 i s (drop (8 * at) (padded_message m))) (sym e)
+-- ---- the blocks of a message
 
-  pub absorbed-last :
-      (s : List ℕ) (at : ℕ) → at % 136 ≡ 0 → at ≤ length m → length m < at + 136 →
-      block keccak_p 1088 s (drop (8 * at) (padded_message m)) ≡ absorbed keccak_p 1088 (left m at) s (drop (8 * at) (padded_message m))
-  unfolding absorbed
-  absorbed-last s at h k j = let e : left m at ≡ 1 = omega arith in rw e
+chunk-at : (n k : ℕ) (m : List ℕ) (i : ℕ) → i < k → get_or (first_chunks n k m) i [] ≡ take n (drop (n * i) m)
+chunk-at n zero m i h = absurd (not-suc-le-zero h)
+chunk-at n (suc k) m zero h = rw mul-zero
+chunk-at n (suc k) m (suc i) h =
+    let place : n * suc i ≡ n + n * i = omega (arith, mul-suc n i) in
+    chunk-at n k (drop n m) i (le_of_suc-le-suc h) ∙ ap (take n) (drop-drop (n * i) n m ∙ ap (λ (j : ℕ). drop j m) (sym place))
+
+-- one block more of the whole ones
+pub absorbs-chunk :
+    (s m : List ℕ) (i : ℕ) {chunks : List (List ℕ)} {t : List ℕ} → i < length m / 136 → chunks ≡ first_chunks 136 (length m / 136) m →
+    t ≡ block keccak_p 1088 s (bits_of 8 (get_or chunks i [])) → absorbs t (drop (136 * (i + 1)) m) ≡ absorbs s (drop (136 * i) m)
+absorbs-chunk s m i {chunks} {t} here front e =
+    let b : List ℕ = take 136 (drop (136 * i) m) in
+    let next : 136 * (i + 1) ≡ 136 * i + 136 = omega arith in
+    let whole : b ++ drop (136 * (i + 1)) m ≡ drop (136 * i) m =
+    ap (λ (j : ℕ). b ++ drop j m) next ∙ ap (λ (r : List ℕ). b ++ r) (sym (drop-drop 136 (136 * i) m)) ∙ take-append-drop 136 (drop (136 * i) m) in
+    rw (e, front, chunk-at 136 (length m / 136) m i here)
+    (sym (absorbs-block s b (drop (136 * (i + 1)) m) (part-long m (136 * i) 136 (omega arith))) ∙ ap (absorbs s) whole)

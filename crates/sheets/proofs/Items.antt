@@ -65,8 +65,8 @@ module _ (read : ℕ → Outcome (ℕ × ℕ)) where
     where
       go : (o : Outcome (ℕ × ℕ)) → read at ≡ o → found o ≡ some part → P part
       go (ok x next) f e = let z : x ≡ part = cc in each at part next (f ∙ ap (λ y. ok y next) z)
-      go (err k vs p) f e = absurd (let z : ◌≡◌ {A = ℕ} 0 1 = cc in omega arith)
-  found-is P each (err k vs p) e = absurd (let z : ◌≡◌ {A = ℕ} 0 1 = cc in omega arith)
+      go (err k vs p) f e = absurd cc
+  found-is P each (err k vs p) e = absurd cc
 
 -- ---- the items of a covenant that is accepted are all there
 
@@ -119,8 +119,8 @@ module _ (s : List ℕ) (at k : ℕ) where
       go (ok head first) e =
           by_order k head.1
           (λ h. found-is (item_at 1000009 at s) (λ x. x.0 + x.1 ≤ length s) each (many_at (item_at 1000009 at s) k first) (rw (lt-ltb k head.1 h) at e))
-          (λ h. let f = (rw (le-ltb k head.1 h) at e) in absurd (let z : ◌≡◌ {A = ℕ} 0 1 = cc in omega arith))
-      go (err j vs p) e = absurd (let z : ◌≡◌ {A = ℕ} 0 1 = cc in omega arith)
+          (λ h. let f = (rw (le-ltb k head.1 h) at e) in absurd cc)
+      go (err j vs p) e = absurd cc
 
   pub item-fits : {a n width : ℕ} → length s < 2 ^ 64 → n ≡ width → seek_at s at k ≡ some (a, n) → (a + width ≤ length s) × (get_or (items_from s at) k [] ≡ bytes_in s (a, width))
   item-fits {a} {n} {width} big w e = (omega (arith, item-inside big e), item-there e ∙ ap (λ (m : ℕ). bytes_in s (a, m)) w)

@@ -1,6 +1,6 @@
 pub mod Reading
 pub mod Whole
-pub mod Counts
+pub mod Counted
 pub mod Viewing
 pub mod Same
 pub mod One

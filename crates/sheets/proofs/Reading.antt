@@ -1,18 +1,20 @@
 -- What reading the parts of a sheet comes to, and what a part that was read tells.
 use mathlib.Core.Path.{◌≡◌, refl, ap, ap₂, sym, ◌∙◌}
-use Prim.Native.Nat.{ℕ, ◌+◌, ◌/◌, ◌%◌, ◌^◌, ◌≤◌, ◌<◌}
+use Prim.Native.Nat.{ℕ, zero, suc, ◌+◌, ◌*◌, ◌/◌, ◌%◌, ◌^◌, ◌≤◌, ◌<◌}
 use native.Mathlib.Omega.{arith}
-use mathlib.Core.List.{List, Memᴰ}
+use mathlib.Core.List.{List, ◌∷◌, Memᴰ}
 use mathlib.Core.Bool.{Bool, true, false}
 use lib.ListN.{length, take, drop, get_or}
 use lib.Dec.{eqb}
-use Rattle.words.specs.Words.{be}
+use lib.Seq.{drop-cons}
+use Rattle.std.proofs.lemmas.List.{drop_all}
+use Rattle.std.specs.Int.{w32, w64, from_be_bytes}
+use Rattle.words.specs.Words.{spell, be}
+use Rattle.words.proofs.Le.{part-long}
 use Rattle.refusal.proofs.Many.{many-somewhere}
 use Rattle.refusal.specs.Outcome.{Stand, Outcome, ok, err, then, past, many_at}
-use Rattle.refusal.proofs.Outcomes.{then_ok, never, past_next, past-cut}
+use Rattle.refusal.proofs.Outcomes.{then_ok, then-assoc, never, past_next, past-cut, past-then}
 use Rattle.encoding.specs.Wire.{slice_at, bytes_at}
-use Rattle.encoding.specs.Paper.{array_paper, shown_bytes}
-use Rattle.encoding.specs.declared.read.ReadArray.{ReadArray}
 use Rattle.encoding.proofs.Slice as slice
 use Rattle.covenants.specs.Covenant.{Reading, Skimmed, covenant_at, skimmed, bytes_in}
 use Rattle.covenants.proofs.Moves.{covenant-moves}
@@ -21,10 +23,54 @@ use Rattle.sheets.specs.Sheet.{field, input_at, place_body_at, place_at, gap, co
 use Rattle.sheets.specs.Workers.{coin_output}
 use Rattle.sheets.specs.declared.Place.{Place}
 
--- bytes that are there, as an array hands them out
-pub array-inside : (n : ℕ) (s : List ℕ) (at : ℕ) (r : ReadArray) → at + n ≤ length s → at + n < 2 ^ 64 → array_paper r ≡ shown_bytes n (bytes_at n s at) → r.bytes ≡ take n (drop at s)
+-- ---- numbers with the highest byte first
+
+-- what bytes spell after v, from the k-th on, byte by byte
+abbrev spelled : List ℕ → ℕ → ℕ → ℕ → ℕ
+spelled bs v k zero = v
+spelled bs v k (suc n) = spelled bs (v * 256 + get_or bs k 0) (suc k) n
+
+spell-each : (bs : List ℕ) (v k n : ℕ) → k + n ≡ length bs → spell v (drop k bs) ≡ spelled bs v k n
+unfolding spell
+spell-each bs v k zero h = rw (drop_all k bs (omega arith))
+spell-each bs v k (suc n) h = rw (drop-cons bs k 0 (omega arith)) (spell-each bs (v * 256 + get_or bs k 0) (suc k) n (omega arith))
+
+-- the library's word for the number of bytes that are there is ours
+module _ (s : List ℕ) (at : ℕ) {bs : List ℕ} where
+  pub be_four : at + 4 ≤ length s → bs ≡ bytes_in s (at, 4) → from_be_bytes w32 bs ≡ be (bytes_in s (at, 4))
+  be_four h e =
+      let long : length bs ≡ 4 = ap length e ∙ part-long s at 4 h in
+      let spelt : from_be_bytes w32 bs ≡ be bs = omega (arith, spell-each bs 0 0 4 (sym long)) in
+      spelt ∙ ap be e
+
+  pub be_eight : at + 8 ≤ length s → bs ≡ bytes_in s (at, 8) → from_be_bytes w64 bs ≡ be (bytes_in s (at, 8))
+  be_eight h e =
+      let long : length bs ≡ 8 = ap length e ∙ part-long s at 8 h in
+      let spelt : from_be_bytes w64 bs ≡ be bs = omega (arith, spell-each bs 0 0 8 (sym long)) in
+      spelt ∙ ap be e
+
+-- ---- reading
+
+-- a part that was read lies within
+pub part_fits : (n : ℕ) (s : List ℕ) (at : ℕ) {part : ℕ × ℕ} {next : ℕ} → ok part next ≡ slice_at n s at → length s < 2 ^ 64 → at + n ≤ length s
+part_fits n s at e big = (slice.read n s at big (sym e)).fits
+
+-- a read of bytes that are not looked at
+pub bytes-then : {B : Type 0} (n : ℕ) (s : List ℕ) (at : ℕ) (f : ℕ → Outcome B) → then (slice_at n s at) (λ part next. f next) ≡ then (bytes_at n s at) (λ bs next. f next)
 unfolding bytes_at
-array-inside n s at r h big e = let w = slice.within n s at big h in ap (λ (t : Outcome Unit × List ℕ). t.1) (rw w at e)
+bytes-then n s at f = sym (then-assoc (slice_at n s at) (λ part next. ok (take n (drop part.0 s)) next) (λ bs next. f next))
+
+-- many are passed by passing each
+pub each-past : {A : Type 0} (read : ℕ → Outcome A) (n at : ℕ) → past (many_at (λ from. past (read from)) n at) ≡ past (many_at read n at)
+unfolding many_at
+each-past read zero at = refl
+each-past {A} read (suc n) at = go (each-past read n) (read at)
+  where
+    go : ((next : ℕ) → past (many_at (λ from. past (read from)) n next) ≡ past (many_at read n next)) → (o : Outcome A)
+        → past (then (past o) (λ u next. then (many_at (λ from. past (read from)) n next) (λ us end. ok (u ∷ us) end)))
+        ≡ past (then o (λ x next. then (many_at read n next) (λ xs end. ok (x ∷ xs) end)))
+    go again (ok x next) = past-then (many_at (λ from. past (read from)) n next) (λ us. tt ∷ us) ∙ again next ∙ sym (past-then (many_at read n next) (λ xs. x ∷ xs))
+    go again (err k vs p) = refl
 
 -- a hash, and what is said of the covenant after it
 module _ (value version size : ℕ) (s : List ℕ) (at : ℕ) {part : ℕ × ℕ} {covenant : ℕ} (hash : slice_at size s at ≡ ok part covenant) where

@@ -18,7 +18,7 @@ use Rattle.sheets.specs.Sheet.{place_at, gap, coin_at, ledger_at, transaction_at
 use Rattle.sheets.specs.Viewer.{View, in_transaction, in_coins, nowhere, record_of, item_in, item_of_place, viewed, view_in, view_of}
 use Rattle.sheets.specs.Workers.{places_of, coin_places_of, item_read, item_after, coin_output, coin_start}
 use Rattle.sheets.proofs.Reading.{place_read, coin-read}
-use Rattle.sheets.proofs.Whole.{ledger-next, transaction-is, coins-are, judged-refused, pair-refused}
+use Rattle.sheets.proofs.Whole.{ledger-next, transaction-is, coins-are, judged-refused, pair-whole, pair-refused}
 
 -- ---- a record of a list of places
 
@@ -34,9 +34,6 @@ record-none (p ∷ ps) (suc k) h = record-none ps k (omega arith)
 
 abbrev second : Outpoint × Place → Place
 second c = c.1
-
-apart : {A : Type 0} {a : A} → none ≡ some a → ⊥
-apart e = let z : ◌≡◌ {A = ℕ} 0 1 = cc in omega arith
 
 -- ---- the item of a record
 
@@ -59,14 +56,14 @@ module _ (s : List ℕ) (big : length s < 2 ^ 64) where
         let missing : record_of t.lists.1 k ≡ none = record-none t.lists.1 k (omega arith) in
         sym (ap (λ o. item_of_place s (record_of (places_of o) k) item) t.read.1 ∙ ap (λ r. item_of_place s r item) missing)
 
-    pub output-there : k < counts.1 → item_after 0 s (past (ledger_at s (counts.0, k) 4)) item ≡ OutputItem
-    output-there h =
+    pub output-there : {walked : Outcome Unit} → k < counts.1 → past (ledger_at s (counts.0, k) 4) ≡ walked → item_after 0 s walked item ≡ OutputItem
+    output-there h e =
         let t = transaction-is s counted in
         let m = many-member (place_at 0 s) k counts.1 t.middle h t.outputs in
         let long = many-long (place_at 0 s) k t.middle m.before in
         let is : record_of t.lists.1 k ≡ some m.item = ap₂ record_of m.split (sym long) ∙ record-front m.front m.item m.back in
         let way : past (ledger_at s (counts.0, k) 4) ≡ ok tt m.start = ledger-next s (counts.0, k) 4 (ap past t.inputs) ∙ ap past m.before in
-        ap (λ o. item_after 0 s o item) way ∙ item-of-read 0 m.start item m.here
+        ap (λ o. item_after 0 s o item) (sym e ∙ way) ∙ item-of-read 0 m.start item m.here
         ∙ sym (ap (λ o. item_of_place s (record_of (places_of o) k) item) t.read.1 ∙ ap (λ r. item_of_place s r item) is)
 
   -- ---- a coin's
@@ -82,9 +79,9 @@ module _ (s : List ℕ) (big : length s < 2 ^ 64) where
         let missing : record_of (map second t.list) k ≡ none = record-none (map second t.list) k (omega (arith, length-map t.list second)) in
         sym (ap (λ o. item_of_place s (record_of (coin_places_of o) k) item) t.read.1 ∙ ap (λ r. item_of_place s r item) missing)
 
-    pub coin-there : k < counts.0 → item_after 1 s (coin_start 1 s k 4) item ≡ CoinItem
+    pub coin-there : {walked : Outcome Unit} → k < counts.0 → coin_start 1 s k 4 ≡ walked → item_after 1 s walked item ≡ CoinItem
     unfolding coin_start coin_output
-    coin-there h =
+    coin-there h e =
         let t = coins-are s counted in
         let m = many-member (coin_at 1 s) k counts.0 4 h t.coins in
         let c = coin-read 1 s m.start m.here in
@@ -92,17 +89,17 @@ module _ (s : List ℕ) (big : length s < 2 ^ 64) where
         let split : map second t.list ≡ map second m.front ++ (m.item.1 ∷ map second m.back) = ap (map second) m.split ∙ map-append second m.front (m.item ∷ m.back) in
         let is : record_of (map second t.list) k ≡ some m.item.1 = ap₂ record_of split (sym long) ∙ record-front (map second m.front) m.item.1 (map second m.back) in
         let way : coin_start 1 s k 4 ≡ ok tt (c.middle + gap 1) = ap (λ o. then (past o) (λ nothing next. coin_output 1 s next)) m.before ∙ ap (λ o. then (past o) (λ nothing next. ok tt (next + gap 1))) c.outpoint in
-        ap (λ o. item_after 1 s o item) way ∙ item-of-read 1 (c.middle + gap 1) item c.output
+        ap (λ o. item_after 1 s o item) (sym e ∙ way) ∙ item-of-read 1 (c.middle + gap 1) item c.output
         ∙ sym (ap (λ o. item_of_place s (record_of (coin_places_of o) k) item) t.read.1 ∙ ap (λ r. item_of_place s r item) is)
 
   -- an item lies within
   item-inside : (r : Option Place) (item : ℕ) {part : ℕ × ℕ} → item_of_place s r item ≡ some part → part.0 + part.1 ≤ length s
-  item-inside none item e = absurd (apart e)
+  item-inside none item e = absurd cc
   item-inside (some p) item {part} e = go (covenant_at 1000009 s p.covenant) refl e
     where
       go : (o : Outcome Reading) → covenant_at 1000009 s p.covenant ≡ o → item_in o item ≡ some part → part.0 + part.1 ≤ length s
       go (ok c next) f e = nth_inside s p.covenant item big f e
-      go (err k vs q) f e = absurd (apart e)
+      go (err k vs q) f e = absurd cc
 
 -- ---- both sheets
 
@@ -118,11 +115,12 @@ module _ (tx coins : List ℕ) (side k item : ℕ) where
       pick (eqb side 0) (viewed in_transaction (item_of_place tx (record_of (places_of (transaction_at tx)) k) item))
       (pick (eqb side 1) (viewed in_coins (item_of_place coins (record_of (coin_places_of (coins_at coins)) k) item)) nowhere)
 
-  pub view-chosen : {v w : ℕ × ℕ} → transaction_counts tx ≡ whole v → coin_counts coins ≡ whole w → view_of tx coins side k item ≡ Chosen
+  pub view-chosen : {v w : ℕ × ℕ} → pair_counts tx coins ≡ whole (v, w) → view_of tx coins side k item ≡ Chosen
   unfolding view_of
-  view-chosen e f =
-      let t = (transaction-is tx e).read in
-      let cs = (coins-are coins f).read in
+  view-chosen e =
+      let p = pair-whole tx coins e in
+      let t = (transaction-is tx p.0).read in
+      let cs = (coins-are coins p.1).read in
       rw (t.1, cs.1)
 
   view-no-transaction : {n : ℕ} {vs : List ℕ} {d : ℕ} → transaction_counts tx ≡ refused n vs d → view_of tx coins side k item ≡ nowhere

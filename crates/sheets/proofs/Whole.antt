@@ -3,13 +3,13 @@ use mathlib.Core.Path.{◌≡◌, refl, ap, ap₂, sym, ◌∙◌}
 use Prim.Native.Nat.{ℕ, ◌/◌, ◌%◌, ◌^◌, ◌≤◌, ◌<◌}
 use native.Mathlib.Omega.{arith}
 use mathlib.Core.List.{List, [], ◌∷◌}
-use mathlib.Core.Bool.{true}
+use mathlib.Core.Bool.{Bool, true, false}
 use lib.ListN.{length}
 use lib.Dec.{ltb, eqb}
-use borrow.Author.Tests.{le-ltb, lt-ltb, ltb-false, eqb-true}
+use borrow.Author.Tests.{ltb-false, eqb-true}
 use Rattle.words.specs.Words.{be}
 use Rattle.refusal.specs.Outcome.{Stand, Outcome, ok, err, then, many_at, past}
-use Rattle.refusal.proofs.Outcomes.{then_ok, passed, past-ok, past_next, past-cut}
+use Rattle.refusal.proofs.Outcomes.{then_ok, passed, past-ok, past-err, past_next, past-cut}
 use Rattle.refusal.proofs.Many.{many-long}
 use Rattle.words.specs.Buffers.{pick}
 use Rattle.encoding.specs.Wire.{slice_at, finish_at}
@@ -17,6 +17,7 @@ use Rattle.encoding.proofs.Slice as slice
 use Rattle.covenants.specs.Covenant.{bytes_in}
 use Rattle.primitives.specs.declared.Outpoint.{Outpoint}
 use Rattle.sheets.specs.Sheet.{Head, field, head_fields, sheet_head_at, input_at, place_at, coin_at, sheet_at, ledger_at, transaction_at, coins_at, Judged, whole, refused, judged, transaction_counts, coin_counts, both, pair_counts}
+use Rattle.sheets.specs.Workers.{opened_at}
 use Rattle.sheets.specs.declared.Place.{Place}
 use Rattle.sheets.proofs.Reading.{field-right}
 
@@ -53,45 +54,35 @@ module _ (s : List ℕ) (counts : ℕ × ℕ) (at : ℕ) where
       let b : length t.1 ≡ counts.1 = many-long (place_at 0 s) counts.1 l.middle l.outputs in
       rw (a, b)
 
--- ---- a sheet judged: its length, its head, what stands after it, and nothing left
+-- ---- a sheet judged: its length and its head, what stands after them, and nothing left
 
 module _ {A : Type 0} (side : ℕ) (s : List ℕ) (rest : Head → ℕ → Outcome A) (f : A → ℕ × ℕ) where
   abbrev Said : Judged (ℕ × ℕ)
   Said = judged side f (sheet_at side s rest)
 
-  pub sheet-long : 16777216 < length s → refused 28 (side ∷ length s ∷ []) side ≡ Said
-  unfolding sheet_at
-  sheet-long h = rw (lt-ltb _ _ h)
+  abbrev Rest : Head → ℕ → Outcome A
+  Rest head next = then (rest head next) (λ a end. then (finish_at s end) (λ nothing end. ok a end))
 
-  pub sheet-head : {k : ℕ} {vs : List ℕ} {p : Stand} → length s ≤ 16777216 → sheet_head_at side s ≡ err k vs p → refused k vs side ≡ Said
-  unfolding sheet_at
-  sheet-head h e = rw (le-ltb _ _ h, e)
+  sheet-opened : sheet_at side s rest ≡ then (opened_at side s) Rest
+  unfolding sheet_at opened_at
+  sheet-opened = go (ltb 16777216 (length s))
+    where
+      go : (long : Bool) → pick long (err 28 (side ∷ length s ∷ []) 0) (then (sheet_head_at side s) Rest) ≡ then (pick long (err 28 (side ∷ length s ∷ []) 0) (sheet_head_at side s)) Rest
+      go true = refl
+      go false = refl
 
-  module _ {said : Head} {next : ℕ} (small : length s ≤ 16777216) (head : sheet_head_at side s ≡ ok said next) where
-    -- what stands after the head is passed, and then nothing may be left
-    abbrev Ends : Outcome Unit
-    Ends = then (past (rest said next)) (λ nothing end. finish_at s end)
+  pub sheet-shut : {k : ℕ} {vs : List ℕ} {p : Stand} → opened_at side s ≡ err k vs p → refused k vs side ≡ Said
+  sheet-shut e = rw (sheet-opened, e)
 
-    sheet-good : {a : A} {p : ℕ} {u : Unit} {q : ℕ} → rest said next ≡ ok a p → finish_at s p ≡ ok u q → whole (f a) ≡ Said
-    unfolding sheet_at
-    sheet-good e g = rw (le-ltb _ _ small, head, e, g)
+  module _ {said : Head} {next : ℕ} (head : opened_at side s ≡ ok said next) where
+    pub sheet-stopped : {k : ℕ} {vs : List ℕ} {p : Stand} → past (rest said next) ≡ err k vs p → refused k vs side ≡ Said
+    sheet-stopped e = rw (sheet-opened, head, past-err (rest said next) e)
 
-    pub sheet-whole : {v : ℕ × ℕ} {u : Unit} {q : ℕ} → ((a : A) (p : ℕ) → rest said next ≡ ok a p → f a ≡ v) → Ends ≡ ok u q → whole v ≡ Said
-    sheet-whole {v} h e =
-        let w = then_ok (past (rest said next)) e in
-        let r = past-ok (rest said next) w.2 in
-        ap whole (sym (h r.0 w.1 r.1)) ∙ sheet-good r.1 w.3
+    pub sheet-left : {u : Unit} {end k : ℕ} {vs : List ℕ} {p : Stand} → past (rest said next) ≡ ok u end → finish_at s end ≡ err k vs p → refused k vs side ≡ Said
+    sheet-left e g = let r = past-ok (rest said next) e in rw (sheet-opened, head, r.1, g)
 
-    sheet-bad : {k : ℕ} {vs : List ℕ} {p : Stand} (o : Outcome A) → rest said next ≡ o → then (past o) (λ nothing end. finish_at s end) ≡ err k vs p → refused k vs side ≡ Said
-    unfolding sheet_at
-    sheet-bad (ok a p) e g = rw (le-ltb _ _ small, head, e, g)
-    sheet-bad {k = k'} {vs = vs'} (err k vs p) e g =
-        let a : k ≡ k' = cc in
-        let b : vs ≡ vs' = cc in
-        rw (le-ltb _ _ small, head, e, a, b)
-
-    pub sheet-cut : {k : ℕ} {vs : List ℕ} {p : Stand} → Ends ≡ err k vs p → refused k vs side ≡ Said
-    sheet-cut e = sheet-bad (rest said next) refl e
+    pub sheet-whole : {v : ℕ × ℕ} {u w : Unit} {end q : ℕ} → ((a : A) (p : ℕ) → rest said next ≡ ok a p → f a ≡ v) → past (rest said next) ≡ ok u end → finish_at s end ≡ ok w q → whole v ≡ Said
+    sheet-whole h e g = let r = past-ok (rest said next) e in rw (sheet-opened, head, r.1, g, h r.0 _ r.1)
 
 -- ---- a sheet that was read
 
@@ -137,10 +128,10 @@ sheet-read side s rest {a} {q} e =
 -- what a judgement tells of the read
 pub judged-whole : {A B : Type 0} (side : ℕ) (f : A → B) (o : Outcome A) {b : B} → judged side f o ≡ whole b → (a : A) × (end : ℕ) × (o ≡ ok a end) × (f a ≡ b)
 judged-whole side f (ok a end) e = (a, end, refl, cc)
-judged-whole side f (err k vs p) e = absurd (let z : ◌≡◌ {A = ℕ} 0 1 = cc in omega arith)
+judged-whole side f (err k vs p) e = absurd cc
 
 pub judged-refused : {A B : Type 0} (side : ℕ) (f : A → B) (o : Outcome A) {k : ℕ} {vs : List ℕ} {d : ℕ} → judged side f o ≡ refused k vs d → (p : Stand) × (o ≡ err k vs p)
-judged-refused side f (ok a end) e = absurd (let z : ◌≡◌ {A = ℕ} 0 1 = cc in omega arith)
+judged-refused side f (ok a end) e = absurd cc
 judged-refused side f (err k vs p) {k = k'} {vs = vs'} e =
     let a : k ≡ k' = cc in
     let b : vs ≡ vs' = cc in
@@ -215,8 +206,8 @@ pub both-whole : {A B : Type 0} (a : Judged A) (b : Judged B) {x : A} {y : B} �
 both-whole {A} {B} (whole a) (whole b) {x} {y} e =
     let same : ◌≡◌ {A = A × B} (a, b) (x, y) = cc in
     (ap (λ (p : A × B). whole p.0) same, ap (λ (p : A × B). whole p.1) same)
-both-whole (whole a) (refused k vs side) e = absurd (let z : ◌≡◌ {A = ℕ} 0 1 = cc in omega arith)
-both-whole (refused k vs side) b e = absurd (let z : ◌≡◌ {A = ℕ} 0 1 = cc in omega arith)
+both-whole (whole a) (refused k vs side) e = absurd cc
+both-whole (refused k vs side) b e = absurd cc
 
 pub pair-whole : (tx coins : List ℕ) {x y : ℕ × ℕ} → pair_counts tx coins ≡ whole (x, y) → (transaction_counts tx ≡ whole x) × (coin_counts coins ≡ whole y)
 unfolding pair_counts
@@ -229,6 +220,6 @@ unfolding pair_counts
 pair-refused tx coins {X} {k} {vs} {d} e first second = go (transaction_counts tx) (coin_counts coins) refl refl e
   where
     go : (a b : Judged (ℕ × ℕ)) → transaction_counts tx ≡ a → coin_counts coins ≡ b → both a b ≡ refused k vs d → X
-    go (whole a) (whole b) p q e = absurd (let z : ◌≡◌ {A = ℕ} 0 1 = cc in omega arith)
+    go (whole a) (whole b) p q e = absurd cc
     go (whole a) (refused k' vs' d') p q e = second a p (q ∙ same-refusal e)
     go (refused k' vs' d') b p q e = first (p ∙ same-refusal e)

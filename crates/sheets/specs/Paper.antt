@@ -1,33 +1,41 @@
 -- What each answer says, in the document's numbers.
-use Rattle.std.specs.Prelude.{ℕ}
+use Rattle.std.specs.Prelude.{ℕ, Some, None, Result, Ok, Err}
+use Rattle.std.specs.Prelude as code
 use Rattle.refusal.specs.Outcome.{Outcome, ok}
 use Rattle.refusal.specs.Paper.{number_of, carried, stop_paper}
-use Rattle.sheets.specs.Sheet.{Head, Judged, whole, refused}
+use Rattle.refusal.specs.declared.Stop.{Stop}
+use Rattle.encoding.specs.declared.read.Cursor.{Cursor}
+use Rattle.sheets.specs.Sheet as sheet
+use Rattle.sheets.specs.Sheet.{Judged, whole, refused}
 use Rattle.sheets.specs.Viewer as viewer
-use Rattle.sheets.specs.declared.Place.{Place}
-use Rattle.sheets.specs.declared.ReadPlace.{ReadPlace}
-use Rattle.sheets.specs.declared.ReadHead.{ReadHead}
-use Rattle.sheets.specs.declared.SheetRead.{SheetRead}
-use Rattle.sheets.specs.declared.PairRead.{PairRead}
+use Rattle.sheets.specs.declared.Counts.{Counts}
+use Rattle.sheets.specs.declared.Head.{Head}
+use Rattle.sheets.specs.declared.PairCounts.{PairCounts}
+use Rattle.sheets.specs.declared.SheetStop.{SheetStop}
+use Rattle.sheets.specs.declared.viewer.Sheet.{Sheet}
 use Rattle.sheets.specs.declared.viewer.View.{View}
 
-abbrev pub place_paper : ReadPlace → Outcome Place
-place_paper (ReadPlace.Output p next) = ok p next.position
-place_paper (ReadPlace.Refused s) = stop_paper s
+abbrev pub sheet_head_paper : Result (Head × Cursor) Stop → Outcome sheet.Head
+sheet_head_paper (Ok r) = ok (record { version = r.0.version; counts = (r.0.first, r.0.outputs) }) r.1.position
+sheet_head_paper (Err s) = stop_paper s
 
-abbrev pub sheet_head_paper : ReadHead → Outcome Head
-sheet_head_paper (ReadHead.Counts version first outputs next) = ok (record { version = version; counts = (first, outputs) }) next.position
-sheet_head_paper (ReadHead.Refused s) = stop_paper s
+-- the counts of a sheet whose side is known
+abbrev pub counts_paper : ℕ → Result Counts Stop → Judged (ℕ × ℕ)
+counts_paper side (Ok c) = whole (c.inputs, c.outputs)
+counts_paper side (Err s) = refused (number_of s.refusal) (carried s.refusal) side
 
-abbrev pub sheet_paper : SheetRead → Judged (ℕ × ℕ)
-sheet_paper (SheetRead.Counts first outputs) = whole (first, outputs)
-sheet_paper (SheetRead.Refused r side) = refused (number_of r) (carried r) side
+abbrev pub sheet_paper : Result Counts SheetStop → Judged (ℕ × ℕ)
+sheet_paper (Ok c) = whole (c.inputs, c.outputs)
+sheet_paper (Err s) = refused (number_of s.refusal) (carried s.refusal) s.side
 
-abbrev pub pair_paper : PairRead → Judged ((ℕ × ℕ) × (ℕ × ℕ))
-pair_paper (PairRead.Counts inputs outputs coins) = whole ((inputs, outputs), (coins, 0))
-pair_paper (PairRead.Refused r side) = refused (number_of r) (carried r) side
+abbrev pub pair_paper : Result PairCounts SheetStop → Judged ((ℕ × ℕ) × (ℕ × ℕ))
+pair_paper (Ok c) = whole ((c.inputs, c.outputs), (c.coins, 0))
+pair_paper (Err s) = refused (number_of s.refusal) (carried s.refusal) s.side
 
-abbrev pub view_paper : View → viewer.View
-view_paper (View.Transaction start len) = viewer.in_transaction start len
-view_paper (View.Coins start len) = viewer.in_coins start len
-view_paper View.Nowhere = viewer.nowhere
+abbrev pub in_sheet : Sheet → ℕ → ℕ → viewer.View
+in_sheet Sheet.Transaction = viewer.in_transaction
+in_sheet Sheet.Coins = viewer.in_coins
+
+abbrev pub view_paper : code.Option View → viewer.View
+view_paper (Some v) = in_sheet v.sheet v.part.start v.part.len
+view_paper None = viewer.nowhere

@@ -1,11 +1,20 @@
--- The way to an item that the viewer takes: the words of its private functions; no outsider reads them.
-use Rattle.std.specs.Prelude.{ℕ, ◌+◌, List, [], map}
+-- The words of private functions, of a sheet's beginning and of the way to an item that the viewer takes; no outsider
+-- reads them.
+use Rattle.std.specs.Prelude.{◌≡◌, ℕ, ◌+◌, List, [], ◌∷◌, map, length, ltb, Result}
 use Rattle.std.proofs.Math.Option.{Option, none}
+use Rattle.words.specs.Buffers.{pick}
 use Rattle.refusal.specs.Outcome.{Outcome, ok, err, then, past, many_at}
+use Rattle.refusal.specs.declared.Stop.{Stop}
+use Rattle.encoding.specs.Paper.{moved_paper}
+use Rattle.encoding.specs.declared.read.Cursor.{Cursor}
 use Rattle.primitives.specs.declared.Outpoint.{Outpoint}
 use Rattle.covenants.specs.Items.{seek_at}
 use Rattle.sheets.specs.declared.Place.{Place}
-use Rattle.sheets.specs.Sheet.{input_at, place_at, gap, coin_at}
+use Rattle.sheets.specs.Sheet.{max_sheet_size, Head, sheet_head_at, input_at, place_at, gap, coin_at}
+
+-- a sheet's length, and then its head
+unfoldable pub opened_at : ℕ → List ℕ → Outcome Head
+opened_at side s = pick (ltb max_sheet_size (length s)) (err 28 (side ∷ length s ∷ []) 0) (sheet_head_at side s)
 
 -- the places of a sheet that was read: none where it was refused
 abbrev pub places_of : Outcome (List Outpoint × List Place) → List Place
@@ -33,3 +42,9 @@ coin_output version s at = then (past (input_at s at)) (λ nothing next. ok tt (
 -- .. of the coin after so many others
 unfoldable pub coin_start : ℕ → List ℕ → ℕ → ℕ → Outcome Unit
 coin_start version s n at = then (past (many_at (coin_at version s) n at)) (λ nothing next. coin_output version s next)
+
+-- so many things were passed, each as `passed` says, whatever passing one of them comes to
+abbrev pub PassedEach : (Cursor → Result Cursor Stop → Type 0) → Cursor → ℕ → Result Cursor Stop → Type 0
+PassedEach passed from n r =
+    (ends : ℕ → Outcome Unit) → ((c : Cursor) (next : Result Cursor Stop) → passed c next → moved_paper next ≡ ends c.position)
+    → moved_paper r ≡ past (many_at ends n from.position)

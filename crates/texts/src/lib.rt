@@ -2,34 +2,12 @@
 // answer is where it ends, or one past the memory where it did not fit, so that nothing that is put from there on fits.
 #![tactic(auto)]
 
-ghost use Rattle.std.specs.Prelude.{◌≡◌, ◌++◌, ℕ, ◌≤◌, length, drop};
+ghost use Rattle.std.specs.Prelude.{◌≡◌, ◌++◌, ℕ, length};
 ghost use Rattle.words.specs.Buffers.{laid};
 ghost use Rattle.texts.specs.Text.{decimal, refused_line, end_of};
 
+use itoa::Buffer;
 use words::store::{has_room, put_bytes};
-
-// The digits of a number, which end at the array's end.
-#[derive(Clone, Copy)]
-struct Digits {
-    bytes: [u8; 20],
-    first: usize,
-}
-
-fn digits_of(n: u64) -> Digits
-    ensures { (result.first ≤ 20) × (drop result.first result.bytes ≡ decimal n) }
-{
-    let mut bytes = [0u8; 20];
-    let mut rest = n;
-    let mut i: usize = 20;
-    while 10 <= rest {
-        i -= 1;
-        bytes[i] = (48 + rest % 10) as u8;
-        rest /= 10;
-    }
-    i -= 1;
-    bytes[i] = (48 + rest % 10) as u8;
-    Digits { bytes, first: i }
-}
 
 // A text from `at` on.
 pub fn put_text(d: &mut [u8], at: usize, s: &[u8]) -> usize
@@ -37,9 +15,10 @@ pub fn put_text(d: &mut [u8], at: usize, s: &[u8]) -> usize
     ensures d_after { d.new ≡ laid at s.now d.old }
 {
     if put_bytes(d, at, s) {
-        return at + s.len();
+        at + s.len()
+    } else {
+        d.len() + 1
     }
-    d.len() + 1
 }
 
 // Two texts, the second after the first: both, or neither.
@@ -49,9 +28,10 @@ fn put_both(d: &mut [u8], at: usize, a: &[u8], b: &[u8]) -> usize
 {
     if has_room(d.len(), at, a.len() + b.len()) {
         let next = put_text(d, at, a);
-        return put_text(d, next, b);
+        put_text(d, next, b)
+    } else {
+        d.len() + 1
     }
-    d.len() + 1
 }
 
 // A number from `at` on, in decimal.
@@ -59,10 +39,8 @@ pub fn put_number(d: &mut [u8], at: usize, n: u64) -> usize
     ensures value { result ≡ end_of at (decimal n) (length d.old) }
     ensures d_after { d.new ≡ laid at (decimal n) d.old }
 {
-    let digits = digits_of(n);
-    let first = digits.first;
-    let bytes = digits.bytes;
-    put_text(d, at, &bytes[first..])
+    let mut digits = Buffer::new();
+    put_text(d, at, digits.format(n).as_bytes())
 }
 
 // A label from `at` on, and a number after it.
@@ -70,10 +48,8 @@ pub fn put_field(d: &mut [u8], at: usize, label: &[u8], n: u64) -> usize
     ensures value { result ≡ end_of at (label.now ++ decimal n) (length d.old) }
     ensures d_after { d.new ≡ laid at (label.now ++ decimal n) d.old }
 {
-    let digits = digits_of(n);
-    let first = digits.first;
-    let bytes = digits.bytes;
-    put_both(d, at, label, &bytes[first..])
+    let mut digits = Buffer::new();
+    put_both(d, at, label, digits.format(n).as_bytes())
 }
 
 // The line of a refusal, from the start on.
@@ -82,7 +58,7 @@ pub fn put_refused(d: &mut [u8], number: u8) -> usize
     ensures d_after { d.new ≡ laid 0 (refused_line number) d.old }
 {
     let mut line = [0u8; 29];
-    let next = put_field(&mut line, 0, b"refused ", number as u64);
+    let next = put_field(&mut line, 0, b"refused ", u64::from(number));
     let end = put_text(&mut line, next, b"\n");
     put_text(d, 0, &line[..end])
 }

@@ -2,13 +2,14 @@
 use mathlib.Core.Path.{◌≡◌, refl, ap, sym, ◌∙◌}
 use Prim.Native.Nat.{ℕ, zero, suc, ◌+◌, ◌-◌, ◌*◌, ◌/◌, ◌%◌, ◌^◌, ◌≤◌, ◌<◌}
 use native.Mathlib.Omega.{arith}
-use native.Mathlib.Nat.{add-zero, add-suc, pow-suc, lt_of_lt_of_le, pow-le-pow_right, div-lt_iff_lt-mul}
+use native.Mathlib.Nat.{pow-suc, lt_of_lt_of_le, pow-le-pow_right, div-lt_iff_lt-mul, div-div-eq-div-mul}
 use mathlib.Core.List.{List, [], ◌∷◌, ◌++◌}
 use lib.ListN.{length, take, drop, get_or, replicate, length-append, length-replicate, length-take, length-drop}
-use lib.Seq.{drop-cons, get_or-drop, take_all, take-take}
+use lib.Seq.{drop-cons, get_or-drop, take-take}
 use Rattle.words.specs.Words.{le, bytes, Bytes}
-use Rattle.words.specs.Buffers.{laid}
-use Rattle.words.proofs.Over.{over_zeros}
+use Rattle.std.proofs.lemmas.List.{drop-replicate}
+use Rattle.std.specs.Int.{w64, from_le_bytes, to_le_bytes}
+use Rattle.words.proofs.Entries.{entries, all-entries}
 
 -- the bytes from at, the first apart
 pub le-more : (s : List ℕ) {at at' k k' : ℕ} → at < length s → at' ≡ suc at → k' ≡ suc k → le (take k' (drop at s)) ≡ le (take k (drop at' s)) * 256 + get_or s at 0
@@ -39,43 +40,29 @@ le_bytes (suc n) v h =
     omega arith
 
 -- zeros after the bytes spell nothing
-pub le-zeros : (s : List ℕ) (n : ℕ) → le (s ++ replicate n 0) ≡ le s
+le-zeros : (s : List ℕ) (n : ℕ) → le (s ++ replicate n 0) ≡ le s
 unfolding le
 le-zeros [] zero = refl
 le-zeros [] (suc n) = omega (arith, le-zeros [] n)
 le-zeros (x ∷ s) n = ap (λ (v : ℕ). x + 256 * v) (le-zeros s n)
 
--- fewer than eight bytes laid over eight zeros spell what they spell alone
-pub le-cut : (t d : List ℕ) → length t < 8 → d ≡ laid 0 t (replicate 8 0) → le (take 8 (drop 0 d)) ≡ le (take 8 t)
-le-cut t d h e =
-    let k : d ≡ t ++ replicate (8 - length t) 0 = e ∙ over_zeros t (8 - length t) 8 (omega arith) in
-    let n : length d ≡ 8 = ap length k ∙ length-append t (replicate (8 - length t) 0) ∙ simp length-replicate (omega arith) in
-    rw (take_all 8 d (omega arith), take_all 8 t (omega arith), k) (le-zeros t (8 - length t))
-
--- the sum of the n bytes from at + k on
-abbrev pub sum : List ℕ → ℕ → ℕ → ℕ → ℕ
-sum m at k zero = 0
-sum m at k (suc n) = get_or m (at + k) 0 + 256 * sum m at (suc k) n
-
-le-sum : (m : List ℕ) (at k n : ℕ) → at + k + n ≤ length m → le (take n (drop (at + k) m)) ≡ sum m at k n
+-- the eight bytes of a word, as the library reads and writes them
+pub from-le : (bs : List ℕ) → length bs ≡ 8 → from_le_bytes w64 bs ≡ le bs
 unfolding le
-le-sum m at k zero h = refl
-le-sum m at k (suc n) h =
-    let l : at + k < length m = omega arith in
-    rw (drop-cons m (at + k) 0, ← add-suc at k) (ap (λ (x : ℕ). get_or m (at + k) 0 + 256 * x) (le-sum m at (suc k) n (omega arith)))
-
--- the word of the eight bytes from `at` on, as a sum
-pub word_at :
-    (m : List ℕ) (at : ℕ) → at + 8 ≤ length m →
-    get_or m at 0 + get_or m (at + 1) 0 * 0x100 + get_or m (at + 2) 0 * 0x10000 + get_or m (at + 3) 0 * 0x1000000
-    + get_or m (at + 4) 0 * 0x100000000 + get_or m (at + 5) 0 * 0x10000000000 + get_or m (at + 6) 0 * 0x1000000000000
-    + get_or m (at + 7) 0 * 0x100000000000000
-    ≡ le (take 8 (drop at m))
-word_at m at h =
-    let e : at + 0 ≡ at = add-zero at in
-    let s : le (take 8 (drop at m)) ≡ sum m at 0 8 = ap (λ (n : ℕ). le (take 8 (drop n m))) (sym e) ∙ le-sum m at 0 8 (omega arith) in
-    let z : get_or m (at + 0) 0 ≡ get_or m at 0 = ap (λ (n : ℕ). get_or m n 0) e in
+from-le bs h =
+    let e : le (entries 0 8 bs) ≡ le bs = ap le (all-entries 8 bs h) in
     omega arith
+
+-- and where zeros stand after the first of them
+pub from-padded : (t : List ℕ) → length t < 8 → from_le_bytes w64 (t ++ drop (length t) (replicate 8 0)) ≡ le t
+from-padded t h =
+    let z : drop (length t) (replicate {A = ℕ} 8 0) ≡ replicate (8 - length t) 0 = drop-replicate (length t) 8 0 in
+    let n : length (t ++ drop (length t) (replicate 8 0)) ≡ 8 = rw z (simp (length-append, length-replicate) (omega arith)) in
+    from-le (t ++ drop (length t) (replicate 8 0)) n ∙ rw z (le-zeros t (8 - length t))
+
+pub to-le : (v : ℕ) → to_le_bytes w64 v ≡ bytes 8 v
+unfolding bytes
+to-le v = simp div-div-eq-div-mul
 
 -- bytes are what their number spells
 pub bytes_le : (n : ℕ) (bs : List ℕ) → length bs ≡ n → Bytes bs → bytes n (le bs) ≡ bs

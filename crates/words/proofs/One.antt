@@ -17,9 +17,6 @@ one e f = e ∙ sym f
 pub one_each : {X Y : Type 0} {x x' z : X} {y y' w : Y} → (x ≡ z) × (y ≡ w) → (x' ≡ z) × (y' ≡ w) → (x ≡ x') × (y ≡ y')
 one_each e f = (one e.0 f.0, one e.1 f.1)
 
-pub wide-one : (x : ℕ) {r r' : ℕ} → r ≡ x → r' ≡ x → r ≡ r'
-wide-one x = one
-
 pub load-u64-one : (m : List ℕ) (at : ℕ) {r r' : ℕ} → r ≡ le (take 8 (drop at m)) → r' ≡ le (take 8 (drop at m)) → r ≡ r'
 load-u64-one m at = one
 

@@ -4,11 +4,12 @@ use Prim.Native.Nat.{ℕ, suc, ◌+◌, ◌/◌, ◌%◌, ◌≤◌, ◌<◌}
 use native.Mathlib.Omega.{arith}
 use native.Mathlib.Nat.{add-zero}
 use native.Mathlib.Numerals.{add-one}
-use mathlib.Core.List.{List, [], ◌∷◌, ◌++◌, append-nil}
+use mathlib.Core.List.{List, [], ◌∷◌, ◌++◌, append-nil, append_assoc}
 use mathlib.Core.Bool.{true, false}
-use lib.ListN.{length, drop, get_or, set, length-set, length-append, drop_of_length-le, replicate, length-replicate, replicate-append-replicate}
-use lib.Seq.{sets, sets-eq, length-sets, drop-cons, drop_at}
+use lib.ListN.{length, take, drop, set, length-set, length-append, drop_of_length-le, replicate, length-replicate, replicate-append-replicate}
+use lib.Seq.{sets, sets-eq, length-sets, drop-drop, drop_at}
 use borrow.Author.Tests.{le-leb, lt-leb}
+use borrow.Rule.Slice.PartMut.{put_mid}
 use Rattle.words.specs.Words.{bytes}
 use Rattle.words.specs.Buffers.{over, fits, laid}
 
@@ -24,9 +25,14 @@ pub sets_more : (d : List ℕ) {j j' k k' : ℕ} (v : ℕ) → j' ≡ suc j → 
 unfolding bytes
 sets_more d v p q = rw (p, q)
 
--- one byte of a copy, and then the others
-pub copy_more : (d s : List ℕ) {j j' f f' : ℕ} → f < length s → j' ≡ suc j → f' ≡ suc f → sets d j (drop f s) ≡ sets (set d j (get_or s f 0)) j' (drop f' s)
-copy_more d s {j} {j'} {f} {f'} h p q = rw (p, q, drop-cons s f 0 h)
+-- a part of d that bs was written to whole
+pub over-mid : (at k : ℕ) (bs d : List ℕ) → length bs ≡ k → put_mid at k d bs ≡ over at bs d
+unfolding over
+over-mid at k bs d h =
+    let e : at + k ≡ at + length bs = omega arith in
+    sym (append_assoc (take at d) bs (drop k (drop at d)))
+    ∙ ap (λ (l : List ℕ). take at d ++ bs ++ l) (drop-drop k at d)
+    ∙ ap (λ (n : ℕ). take at d ++ bs ++ drop n d) e
 
 pub over-cons : (at x : ℕ) (bs d : List ℕ) → at + suc (length bs) ≤ length d → over (at + 1) bs (set d at x) ≡ over at (x ∷ bs) d
 over-cons at x bs d h =

@@ -1,17 +1,18 @@
 -- Lists of bytes that are the same, byte by byte.
 use mathlib.Core.Path.{◌≡◌, refl, ap, ap₂, sym, ◌∙◌}
-use Prim.Native.Nat.{ℕ, suc, ◌+◌, ◌≤◌, ◌<◌}
+use Prim.Native.Nat.{ℕ, zero, suc, ◌+◌, ◌*◌, ◌/◌, ◌<◌}
 use native.Mathlib.Omega.{arith}
 use native.Mathlib.Numerals.{add-one}
 use mathlib.Core.List.{List, [], ◌∷◌, ◌++◌}
-use mathlib.Core.Bool.{Bool, true, false, ◌&&◌}
+use mathlib.Core.Bool.{Bool, true, false, not, ◌&&◌}
 use lib.ListN.{length, take, drop, get_or, take-append-drop}
 use lib.Seq.{drop-cons, drop-length, drop-drop}
 use lib.Dec.{eqb}
+use lib.Pointwise.{pointwise}
+use Rattle.std.specs.Simd.{first_chunks}
 use borrow.Author.Tests.{eq-eqb, ne_eqb, eqb-true}
-use Rattle.words.specs.Words.{le, Bytes}
 use Rattle.words.specs.Sameness.{same}
-use Rattle.words.proofs.Le.{word-one}
+use Rattle.words.proofs.Le.{part-long}
 
 pub and-false : (b : Bool) → (b && false) ≡ false
 and-false true = refl
@@ -58,19 +59,74 @@ same_end a b i p q =
     let f : drop i b ≡ [] = ap (λ n. drop n b) q ∙ drop-length b in
     rw (e, f)
 
--- the same bytes before both
-pub same-before : (p a b : List ℕ) → same (p ++ a) (p ++ b) ≡ same a b
-unfolding same
-same-before [] a b = refl
-same-before (x ∷ p) a b = rw (eq-eqb x x refl, same-before p a b)
+-- ---- words that are cut off, eight bytes each
 
--- a word that is the same in both is passed over
-pub same_word : (a b : List ℕ) (i : ℕ) → Bytes a → Bytes b → i + 8 ≤ length a → i + 8 ≤ length b → le (take 8 (drop i a)) ≡ le (take 8 (drop i b)) → same (drop i a) (drop i b) ≡ same (drop (i + 8) a) (drop (i + 8) b)
-same_word a b i p q h k e =
-    let w : take 8 (drop i a) ≡ take 8 (drop i b) = word-one a b i i p q h k e in
-    let s : drop i a ≡ take 8 (drop i a) ++ drop (i + 8) a = rw (← drop-drop 8 i a) (sym (take-append-drop 8 (drop i a))) in
-    let t : drop i b ≡ take 8 (drop i a) ++ drop (i + 8) b = rw (w, ← drop-drop 8 i b) (sym (take-append-drop 8 (drop i b))) in
-    ap₂ same s t ∙ same-before (take 8 (drop i a)) (drop (i + 8) a) (drop (i + 8) b)
+and-and : (s t u : Bool) → (s && (t && u)) ≡ ((s && t) && u)
+and-and true t u = refl
+and-and false t u = refl
+
+-- as many bytes, and then the others
+same-split : (x y s t : List ℕ) → length x ≡ length y → same (x ++ s) (y ++ t) ≡ (same x y && same s t)
+unfolding same
+same-split [] [] s t e = refl
+same-split [] (y ∷ ys) s t e = absurd (omega arith)
+same-split (x ∷ xs) [] s t e = absurd (omega arith)
+same-split (x ∷ xs) (y ∷ ys) s t e =
+    ap (λ r. eqb x y && r) (same-split xs ys s t (omega arith)) ∙ and-and (eqb x y) (same xs ys) (same s t)
+
+-- what the library's comparison of arrays and slices answers
+same-eq : (a b : List ℕ) → pointwise eqb a b ≡ same a b
+unfolding same
+same-eq [] [] = refl
+same-eq [] (y ∷ ys) = refl
+same-eq (x ∷ xs) [] = refl
+same-eq (x ∷ xs) (y ∷ ys) = ap (λ t. eqb x y && t) (same-eq xs ys)
+
+chunk-at : (k : ℕ) (p : List ℕ) (i : ℕ) → i < k → get_or (first_chunks 8 k p) i [] ≡ take 8 (drop (8 * i) p)
+chunk-at zero p i h = absurd (omega arith)
+chunk-at (suc k) p zero h = refl
+chunk-at (suc k) p (suc i) h =
+    let e : 8 + 8 * i ≡ 8 * suc i = omega arith in
+    chunk-at k (drop 8 p) i (omega arith) ∙ ap (take 8) (drop-drop (8 * i) 8 p ∙ ap (λ (j : ℕ). drop j p) e)
+
+pass : (p r : Bool) → false ≡ not p → (p && r) ≡ r
+pass true r e = refl
+pass false r e = cc
+
+stop : (p r : Bool) → true ≡ not p → (p && r) ≡ false
+stop true r e = cc
+stop false r e = refl
+
+module _ (a b : List ℕ) (ws vs : List (List ℕ)) (i : ℕ) (long : length a ≡ length b) (p : ws ≡ first_chunks 8 (length a / 8) a) (q : vs ≡ first_chunks 8 (length b / 8) b) (n : length ws ≡ length a / 8) (h : i < length ws) where
+  abbrev alike : Bool
+  alike = pointwise eqb (get_or ws i []) (get_or vs i [])
+
+  -- word i of both, and then the others
+  word_first : same (drop (8 * i) a) (drop (8 * i) b) ≡ (alike && same (drop (8 * (i + 1)) a) (drop (8 * (i + 1)) b))
+  word_first =
+      let e : 8 * i + 8 ≡ 8 * (i + 1) = omega arith in
+      let x = take 8 (drop (8 * i) a) in
+      let y = take 8 (drop (8 * i) b) in
+      let s : drop (8 * i) a ≡ x ++ drop (8 * (i + 1)) a = rw (← e, ← drop-drop 8 (8 * i) a) (sym (take-append-drop 8 (drop (8 * i) a))) in
+      let t : drop (8 * i) b ≡ y ++ drop (8 * (i + 1)) b = rw (← e, ← drop-drop 8 (8 * i) b) (sym (take-append-drop 8 (drop (8 * i) b))) in
+      let u = ap (λ (w : List (List ℕ)). get_or w i []) p ∙ chunk-at (length a / 8) a i (omega arith) in
+      let v = ap (λ (w : List (List ℕ)). get_or w i []) q ∙ chunk-at (length b / 8) b i (omega arith) in
+      ap₂ same s t
+      ∙ same-split x y (drop (8 * (i + 1)) a) (drop (8 * (i + 1)) b) (part-long a (8 * i) 8 (omega arith) ∙ sym (part-long b (8 * i) 8 (omega arith)))
+      ∙ ap (λ r. r && same (drop (8 * (i + 1)) a) (drop (8 * (i + 1)) b)) (sym (ap₂ (pointwise eqb) u v ∙ same-eq x y))
+
+  pub word_next : false ≡ not alike → same (drop (8 * i) a) (drop (8 * i) b) ≡ same (drop (8 * (i + 1)) a) (drop (8 * (i + 1)) b)
+  word_next e = word_first ∙ pass alike _ e
+
+  pub word_stop : true ≡ not alike → same (drop (8 * i) a) (drop (8 * i) b) ≡ false
+  word_stop e = word_first ∙ stop alike _ e
+
+-- the bytes after the last whole word
+pub words-done : (a b : List ℕ) (i : ℕ) {s t : List ℕ} → i ≡ length a / 8 → length a ≡ length b → s ≡ drop (length a / 8 * 8) a → t ≡ drop (length b / 8 * 8) b → same (drop (8 * i) a) (drop (8 * i) b) ≡ same s t
+words-done a b i e long p q =
+    let f : 8 * i ≡ length a / 8 * 8 = omega arith in
+    let g : 8 * i ≡ length b / 8 * 8 = omega (arith, ap (λ (n : ℕ). n / 8) long) in
+    ap₂ same (ap (λ (n : ℕ). drop n a) f ∙ sym p) (ap (λ (n : ℕ). drop n b) g ∙ sym q)
 
 -- the same bytes after both
 pub same-append : (a b zs : List ℕ) → length a ≡ length b → same a b ≡ same (a ++ zs) (b ++ zs)

@@ -1,5 +1,5 @@
-use Rattle.std.proofs.Common.{◌∙◌, arith}
-use Rattle.refusal.proofs.Outcomes.{told}
+use Rattle.std.proofs.Common.{◌∙◌, Ok, arith}
+use Rattle.refusal.proofs.Outcomes.{told, raised}
 use Rattle.runs.specs.Paper.{run_step_paper}
 use Rattle.runs.proofs.Running.{begin, finish, moves, more}
 use Rattle.runs.proofs.Covenants.{skim-moves, skim-said}
@@ -9,13 +9,22 @@ pub loop-after-init : goal.loop-after-init
 loop-after-init c = rw c.start-run.ensures (begin _ _)
 
 pub loop-after-smaller : goal.loop-after-smaller
-loop-after-smaller c = let m = moves _ _ c.loop-after.invariant (skim-moves _ _ (omega arith)) (told run_step_paper c.next_with_limit.ensures c.in-Covenant.is) (omega arith) in omega arith
+loop-after-smaller c =
+    let n = c.loop-after.run.count in
+    let m = moves _ _ c.loop-after.invariant (skim-moves _ _ (omega arith)) (told (λ o. run_step_paper n (Ok o)) c.in_ok-after.ensures c.in-Some.is) (omega arith) in
+    omega arith
 
 pub loop-after-preserved : goal.loop-after-preserved
-loop-after-preserved c = more _ _ c.loop-after.invariant (skim-moves _ _ (omega arith)) (told run_step_paper c.next_with_limit.ensures c.in-Covenant.is) (omega arith)
+loop-after-preserved c =
+    let n = c.loop-after.run.count in
+    more _ _ c.loop-after.invariant (skim-moves _ _ (omega arith)) (told (λ o. run_step_paper n (Ok o)) c.in_ok-after.ensures c.in-Some.is) (omega arith)
 
-pub returns-in-Ended : goal.returns-in-Ended
-returns-in-Ended c = finish _ _ c.loop-after.invariant (told run_step_paper c.next_with_limit.ensures c.in-Ended.is) ∙ skim-said _ _
+pub returns-in_err-after : goal.returns-in_err-after
+returns-in_err-after c =
+    let n = c.loop-after.run.count in
+    rw (raised c.from_residual.ensures) (finish _ _ c.loop-after.invariant (told (run_step_paper n) c.next_with_limit.ensures c.in_err-after.was) ∙ skim-said _ _)
 
-pub returns-in-Refused : goal.returns-in-Refused
-returns-in-Refused c = finish _ _ c.loop-after.invariant (told run_step_paper c.next_with_limit.ensures c.in-Refused.is) ∙ skim-said _ _
+pub returns : goal.returns
+returns c =
+    let n = c.loop-after.run.count in
+    finish _ _ c.loop-after.invariant (told (λ o. run_step_paper n (Ok o)) c.in_ok-after.ensures c.in_default.is) ∙ skim-said _ _

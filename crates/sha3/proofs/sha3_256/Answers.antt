@@ -1,31 +1,21 @@
-use mathlib.Core.Path.{refl, ap, ◌∙◌}
-use mathlib.Core.List.{List}
-use Prim.Native.Nat.{ℕ}
-use native.Mathlib.Omega.{arith}
-use lib.ListN.{take, replicate}
-use Rattle.sha3.specs.Keccak.{keccak_p}
-use Rattle.sha3.specs.Sha3.{bits_of, packed, absorbed, sponge, keccak, sha3}
-use Rattle.sha3.proofs.Padding.{padded_message}
-use Rattle.sha3.proofs.Sponge.{left-all, absorbed-more, absorbed-last}
+use Rattle.std.proofs.Common.{◌≡◌, List, ℕ, ◌*◌, ◌/◌, ◌<◌, length, take, drop, sym, ap, ◌∙◌, arith}
+use Rattle.sha3.specs.Sha3.{bits_of, packed, sponge, keccak, sha3}
+use Rattle.sha3.proofs.Sponge.{absorbs, absorbs-last, absorbs-chunk}
 use Rattle.sha3.proofs.sha3_256.Goals as goal
 
-pub loop-at-init : goal.loop-at-init
-loop-at-init c = (omega arith, refl, refl)
-
-pub loop-at-preserved : goal.loop-at-preserved
-loop-at-preserved c =
-    let l = c.loop-at in
-    let m = c.args.m.now in
-    (omega arith, omega arith, rw c.absorb_block.ensures (absorbed-more m l.s l.at l.invariant.1 (omega arith) ∙ l.invariant.2))
+pub loop-block-preserved : goal.loop-block-preserved
+loop-block-preserved c =
+    let l = c.loop-block in
+    let here : l.block-index < length c.args.m.now / 136 = omega (arith, c.as_chunks.ensures.front_len) in
+    absorbs-chunk l.s c.args.m.now l.block-index here c.as_chunks.ensures.front c.absorb_block.ensures ∙ l.invariant
 
 pub returns : goal.returns
 unfolding sponge keccak sha3
 returns c =
-    let l = c.loop-at in
+    let l = c.loop-block in
     let m = c.args.m.now in
+    let all : length m / 136 * 136 ≡ 136 * l.block-index = omega (arith, c.as_chunks.ensures.front_len) in
+    let rest : c.as_chunks.result.1.now ≡ drop (136 * l.block-index) m = c.as_chunks.ensures.back ∙ ap (λ (k : ℕ). drop k m) all in
     c.squeeze.ensures
     ∙ ap (λ (s : List ℕ). packed 8 32 (take 256 (bits_of 64 s)))
-    (c.absorb_last.ensures
-    ∙ absorbed-last m l.s l.at l.invariant.1 l.invariant.0 (omega arith)
-    ∙ l.invariant.2
-    ∙ ap (λ (n : ℕ). absorbed keccak_p 1088 n (replicate 25 0) (padded_message m)) (left-all m))
+    (c.absorb_last.ensures ∙ sym (absorbs-last l.s c.as_chunks.result.1.now (omega (arith, c.as_chunks.ensures.back_len))) ∙ ap (absorbs l.s) rest ∙ l.invariant)

@@ -1,24 +1,19 @@
 use native.Mathlib.Omega.{arith}
-use Rattle.refusal.proofs.Outcomes.{told}
-use Rattle.encoding.specs.Paper.{span_paper}
-use Rattle.encoding.proofs.Slice as slice
+use borrow.Author.Rules.{rules}
+use mathlib.Core.Path.{◌≡◌, ◌∙◌}
+use Rattle.covenants.specs.Covenant.{bytes_in}
+use Prim.Native.Nat.{◌+◌}
 use Rattle.sheets.specs.Sheet.{input_at}
-use Rattle.sheets.proofs.Reading.{array-inside}
+use Rattle.sheets.proofs.Reading.{part_fits, be_four}
 use Rattle.sheets.proofs.input_at.Goals as goal
 
-pub overflow_add-at : goal.overflow_add-at
-overflow_add-at c = let p = slice.read _ _ _ (omega arith) (told span_paper c.read_slice.ensures c.in-Span.is) in omega (arith, p.fits)
-
-pub be_at-index-requires : goal.be_at-index-requires
-be_at-index-requires c = let p = slice.read _ _ _ (omega arith) (told span_paper c.read_slice.ensures c.in-Span.is) in (omega arith, omega (arith, p.fits))
-
-pub returns-in-Span : goal.returns-in-Span
+pub returns : goal.returns
 unfolding input_at
-returns-in-Span c =
-    let p = slice.read _ _ _ (omega arith) (told span_paper c.read_slice.ensures c.in-Span.is) in
-    let h = array-inside 32 _ _ c.read_array-hash.result (omega (arith, p.fits)) (omega (arith, p.fits)) c.read_array-hash.ensures in
-    rw (← c.read_slice.ensures, c.in-Span.is, h, c.be_at-index.ensures.0)
-
-pub returns-in-Refused : goal.returns-in-Refused
-unfolding input_at
-returns-in-Refused c = rw (← c.read_slice.ensures, c.in-Refused.is, c.refused.ensures)
+returns c =
+    let s = c.args.s.now in
+    let at = c.args.c.position in
+    let fits = part_fits _ _ _ c.in_ok-next.ensures (omega arith) in
+    let hash : c.unwrap.result ≡ bytes_in s (at, 32) = search rules in
+    let four : c.unwrap-2.result ≡ bytes_in s (at + 32, 4) = search rules in
+    let index = c.from_be_bytes.ensures ∙ be_four s (at + 32) (omega (arith, fits)) four in
+    rw (← c.in_ok-next.ensures, hash, index)

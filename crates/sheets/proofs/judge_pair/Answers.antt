@@ -1,13 +1,15 @@
-use Rattle.refusal.proofs.Outcomes.{told}
-use Rattle.sheets.specs.Paper.{sheet_paper}
+use mathlib.Core.Path.{sym}
+use Rattle.refusal.proofs.Outcomes.{raised}
 use Rattle.sheets.proofs.Whole.{pair-both, pair-first, pair-second}
 use Rattle.sheets.proofs.judge_pair.Goals as goal
 
-pub returns-in-Counts-judge_coins : goal.returns-in-Counts-judge_coins
-returns-in-Counts-judge_coins c = pair-both _ _ (told sheet_paper c.judge_transaction.ensures c.in-Counts.is) (told sheet_paper c.judge_coins.ensures c.in-Counts-judge_coins.is)
+pub returns-in_err-transaction : goal.returns-in_err-transaction
+returns-in_err-transaction c = rw (raised c.from_residual.ensures) (pair-first _ _ (sym c.in_err-transaction.ensures))
 
-pub returns-in-Refused-judge_coins : goal.returns-in-Refused-judge_coins
-returns-in-Refused-judge_coins c = pair-second _ _ (told sheet_paper c.judge_transaction.ensures c.in-Counts.is) (told sheet_paper c.judge_coins.ensures c.in-Refused-judge_coins.is)
+pub returns-in_err-coin_sheet : goal.returns-in_err-coin_sheet
+returns-in_err-coin_sheet c =
+    rw (raised c.from_residual-in_err-coin_sheet.ensures)
+    (pair-second _ _ (sym c.in_ok-transaction.ensures) (sym c.in_err-coin_sheet.ensures))
 
-pub returns-in-Refused : goal.returns-in-Refused
-returns-in-Refused c = pair-first _ _ (told sheet_paper c.judge_transaction.ensures c.in-Refused.is)
+pub returns : goal.returns
+returns c = pair-both _ _ (sym c.in_ok-transaction.ensures) (sym c.in_ok-coin_sheet.ensures)

@@ -14,8 +14,8 @@ returns-then-has_room c =
     let made = and_then a.d.now a.at a.a.now a.b.now (c.put_text-next.ensures.value, c.put_text-next.ensures.d_after) (c.put_text.ensures.value, c.put_text.ensures.d_after) (omega (arith, length-append a.a.now a.b.now)) in
     record { value = made.0; d_after = made.1 }
 
-pub returns : goal.returns
-returns c =
+pub returns-else-has_room : goal.returns-else-has_room
+returns-else-has_room c =
     let a = c.args in
     let short = leb-false (a.at + (length a.a.now + length a.b.now)) (length a.d.now) (sym c.has_room.ensures ∙ c.if-has_room.false) in
     let made = none-put a.d.now a.at (a.a.now ++ a.b.now) (omega (arith, length-append a.a.now a.b.now)) in

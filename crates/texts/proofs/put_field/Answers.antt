@@ -1,20 +1,17 @@
-use borrow.Author.Rules.{rules}
-use native.Mathlib.Omega.{arith}
-use mathlib.Core.Path.{◌≡◌, ◌∙◌}
-use Prim.Native.Nat.{◌-◌}
-use lib.ListN.{length, take, drop, length-drop}
-use lib.Seq.{take_all}
-use Rattle.texts.specs.Text.{decimal}
+use mathlib.Core.Path.{ap, ◌∙◌}
+use mathlib.Core.List.{List, ◌++◌}
+use Prim.Native.Nat.{ℕ}
+use lib.ListN.{length}
+use Rattle.words.specs.Buffers.{laid}
+use Rattle.texts.specs.Text.{end_of}
+use Rattle.texts.proofs.Decimal.{decimal-printed}
 use Rattle.texts.proofs.put_field.Goals as goal
-
-pub slice_bounds-put_both-end : goal.slice_bounds-put_both-end
-slice_bounds-put_both-end c =
-    let long : length c.digits_of-digits.result.bytes ≡ 20 = search rules in
-    omega (arith, c.digits_of-digits.ensures.0)
 
 pub returns : goal.returns
 returns c =
-    let made = c.digits_of-digits in
-    let long : length made.result.bytes ≡ 20 = search rules in
-    let e : take (20 - made.result.first) (drop made.result.first made.result.bytes) ≡ decimal c.args.n = take_all (20 - made.result.first) (drop made.result.first made.result.bytes) (simp length-drop (omega arith)) ∙ made.ensures.1 in
-    record { value = rw (← e) c.put_both.ensures.value; d_after = rw (← e) c.put_both.ensures.d_after }
+    let a = c.args in
+    let text = c.as_bytes.ensures.value ∙ c.format.ensures.text ∙ decimal-printed a.n c.ranges.n.fits in
+    record {
+      value = c.put_both.ensures.value ∙ ap (λ (bs : List ℕ). end_of a.at (a.label.now ++ bs) (length a.d.now)) text;
+      d_after = c.put_both.ensures.d_after ∙ ap (λ (bs : List ℕ). laid a.at (a.label.now ++ bs) a.d.now) text;
+    }

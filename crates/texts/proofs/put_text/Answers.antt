@@ -13,8 +13,7 @@ overflow_add-result c =
 pub returns-then-put_bytes : goal.returns-then-put_bytes
 returns-then-put_bytes c = record { value = sym (end-within _ _ _ (stored _ _ _ (sym c.put_bytes.ensures.0 ∙ c.if-put_bytes.true))); d_after = c.put_bytes.ensures.1 }
 
-pub returns : goal.returns
-returns c =
+pub returns-else-put_bytes-clause-value : goal.returns-else-put_bytes-clause-value
+returns-else-put_bytes-clause-value c =
     let a = c.args in
-    let past = end-past a.at a.s.now (length a.d.now) (not-stored _ _ _ (sym c.put_bytes.ensures.0 ∙ c.if-put_bytes.false)) in
-    record { value = omega (arith, past, c.put_bytes.auto.d); d_after = c.put_bytes.ensures.1 }
+    omega (arith, end-past a.at a.s.now (length a.d.now) (not-stored _ _ _ (sym c.put_bytes.ensures.0 ∙ c.if-put_bytes.false)), c.put_bytes.auto.d)

@@ -1,19 +1,23 @@
 use native.Mathlib.Omega.{arith}
-use mathlib.Core.Path.{ap, sym, ◌∙◌}
-use Rattle.refusal.proofs.Outcomes.{told}
+use mathlib.Core.Path.{ap, sym}
+use Rattle.refusal.proofs.Outcomes.{told, raised}
+use Rattle.encoding.specs.Paper.{moved_paper}
 use Rattle.covenants.specs.Covenant.{skimmed}
 use Rattle.covenants.specs.Paper.{head_paper}
-use Rattle.covenants.proofs.Moves.{opened-head, skim-refused, skim-completed, skim-later}
+use Rattle.covenants.proofs.Moves.{opened-head, skim-refused, skim-stopped, skim-ended, skim-later}
 use Rattle.covenants.proofs.Covenant.read.Goals as goal
 
-pub pass_items-passed-requires : goal.pass_items-passed-requires
-pass_items-passed-requires c = let h = opened-head _ _ _ (told head_paper c.opened.ensures c.in-Head.is) (omega arith) in omega (arith, h.later)
+pub returns-in_err-head : goal.returns-in_err-head
+returns-in_err-head c = rw (raised c.from_residual.ensures) (sym (ap skimmed (skim-refused _ _ _ c.new-reader.ensures (told head_paper c.open.ensures c.in_err-head.was))))
 
-pub completed-requires : goal.completed-requires
-completed-requires c = λ end e. skim-later _ _ _ c.capped-allowance.ensures (told head_paper c.opened.ensures c.in-Head.is) (omega arith) (sym c.pass_items-passed.ensures ∙ e)
+pub pass_items-requires : goal.pass_items-requires
+pass_items-requires c = let h = opened-head _ _ _ (told head_paper c.open.ensures c.in_ok-head.was) (omega arith) in omega (arith, h.later)
 
-pub returns-in-Head : goal.returns-in-Head
-returns-in-Head c = c.completed.ensures ∙ rw c.pass_items-passed.ensures (skim-completed _ _ _ c.capped-allowance.ensures (told head_paper c.opened.ensures c.in-Head.is))
+pub returns-in_err-end : goal.returns-in_err-end
+returns-in_err-end c = rw (raised c.from_residual-in_err-end.ensures) (skim-stopped _ _ _ c.new-reader.ensures (told head_paper c.open.ensures c.in_ok-head.was) (told moved_paper c.pass_items.ensures c.in_err-end.was))
 
-pub returns-in-Refused : goal.returns-in-Refused
-returns-in-Refused c = sym (ap skimmed (skim-refused _ _ _ c.capped-allowance.ensures (told head_paper c.opened.ensures c.in-Refused.is)))
+pub accepted-requires : goal.accepted-requires
+accepted-requires c = skim-later _ _ _ c.new-reader.ensures (told head_paper c.open.ensures c.in_ok-head.was) (omega arith) (told moved_paper c.pass_items.ensures c.in_ok-end.was)
+
+pub returns : goal.returns
+returns c = rw (c.accepted.ensures.0, c.accepted.ensures.1, c.accepted.ensures.2) (skim-ended _ _ _ c.new-reader.ensures (told head_paper c.open.ensures c.in_ok-head.was) (told moved_paper c.pass_items.ensures c.in_ok-end.was))

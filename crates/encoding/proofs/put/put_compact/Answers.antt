@@ -20,8 +20,8 @@ put_tagged-requires-then-value-lt4294967296 c = omega (arith, (form5 c.args.valu
 pub returns-then-value-lt4294967296 : goal.returns-then-value-lt4294967296
 returns-then-value-lt4294967296 c = rw (form5 c.args.value (omega arith) (omega arith)).0 c.put_tagged-then-value-lt4294967296.ensures
 
-pub put_tagged-requires-2 : goal.put_tagged-requires-2
-put_tagged-requires-2 c = omega (arith, (form9 c.args.value (omega arith)).1)
+pub put_tagged-requires-else-value-lt4294967296 : goal.put_tagged-requires-else-value-lt4294967296
+put_tagged-requires-else-value-lt4294967296 c = omega (arith, (form9 c.args.value (omega arith)).1)
 
-pub returns : goal.returns
-returns c = rw (form9 c.args.value (omega arith)).0 c.put_tagged-2.ensures
+pub returns-else-value-lt4294967296 : goal.returns-else-value-lt4294967296
+returns-else-value-lt4294967296 c = rw (form9 c.args.value (omega arith)).0 c.put_tagged-else-value-lt4294967296.ensures

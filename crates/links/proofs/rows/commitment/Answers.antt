@@ -1,15 +1,17 @@
-use borrow.Author.Tests.{le-leb, lt-leb}
+use mathlib.Core.Path.{sym, ◌∙◌}
+use Rattle.refusal.proofs.Outcomes.{raised}
 use Rattle.links.specs.Rules.{committed}
+use Rattle.links.proofs.Judging.{above, not_above}
 use Rattle.links.proofs.rows.commitment.Goals as goal
 
-pub returns-then-spent-made : goal.returns-then-spent-made
+pub returns-in_err-opening : goal.returns-in_err-opening
 unfolding committed
-returns-then-spent-made c = rw (← c.opening.ensures, c.in-Passes.is, lt-leb _ _ c.if-spent-made.true)
+returns-in_err-opening c = rw (raised c.from_residual.ensures, ← c.opening.ensures, c.in_err-opening.was)
 
-pub returns-else-spent-made : goal.returns-else-spent-made
+pub returns-then-lt : goal.returns-then-lt
 unfolding committed
-returns-else-spent-made c = rw (← c.opening.ensures, c.in-Passes.is, le-leb _ _ c.if-spent-made.false)
+returns-then-lt c = rw (← c.opening.ensures, c.in_ok-opening.was, above _ _ (sym c.lt.ensures ∙ c.if-lt.true))
 
-pub returns-in-Breaks : goal.returns-in-Breaks
+pub returns : goal.returns
 unfolding committed
-returns-in-Breaks c = rw (← c.opening.ensures, c.in-Breaks.is)
+returns c = rw (← c.opening.ensures, c.in_ok-opening.was, not_above _ _ (sym c.lt.ensures ∙ c.if-lt.false))

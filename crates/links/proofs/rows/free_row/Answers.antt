@@ -1,10 +1,10 @@
 use Rattle.links.specs.Rules.{free_rule}
 use Rattle.links.proofs.rows.free_row.Goals as goal
 
-pub returns-then-is_free : goal.returns-then-is_free
+pub returns-then-not-is_free : goal.returns-then-not-is_free
 unfolding free_rule
-returns-then-is_free c = λ coins tx. rw (← c.is_free.ensures, c.if-is_free.true)
+returns-then-not-is_free c = λ coins tx. rw (c.invalid_transition.ensures, ← c.is_free.ensures, c.if-not-is_free.true)
 
 pub returns : goal.returns
 unfolding free_rule
-returns c = λ coins tx. rw (← c.is_free.ensures, c.if-is_free.false) (c.invalid_transition.ensures coins tx)
+returns c = λ coins tx. rw (← c.is_free.ensures, c.if-not-is_free.false)

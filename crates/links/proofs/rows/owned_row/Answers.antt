@@ -1,20 +1,21 @@
-use borrow.Author.Tests.{eq-eqb, ne_eqb}
+use mathlib.Core.Path.{sym, ◌∙◌}
+use Rattle.std.proofs.lemmas.Bool.{not-false, not-true}
 use Rattle.links.specs.Rules.{owned_rule}
 use Rattle.checks.proofs.Comparing.{names-pass}
 use Rattle.links.proofs.rows.owned_row.Goals as goal
 
-pub returns-then-made-spent : goal.returns-then-made-spent
+pub returns-then-ne : goal.returns-then-ne
 unfolding owned_rule
-returns-then-made-spent c = rw (ne_eqb _ _ c.if-made-spent.true)
+returns-then-ne c = rw (not-true _ (sym c.ne.ensures ∙ c.if-ne.true))
 
-pub returns-then-stays : goal.returns-then-stays
+pub returns-then-not-same_address : goal.returns-then-not-same_address
 unfolding owned_rule
-returns-then-stays c = rw (eq-eqb _ _ c.if-made-spent.false, ← c.same_address.ensures, c.if-same_address.true, ← c.stays.ensures, c.if-stays.true) (names-pass _ _ _)
+returns-then-not-same_address c = rw (not-false _ (sym c.ne.ensures ∙ c.if-ne.false), ← c.same_address.ensures, c.if-not-same_address.true)
 
-pub returns-then-same_address : goal.returns-then-same_address
+pub returns-then-not-stays : goal.returns-then-not-stays
 unfolding owned_rule
-returns-then-same_address c = rw (eq-eqb _ _ c.if-made-spent.false, ← c.same_address.ensures, c.if-same_address.true, ← c.stays.ensures, c.if-stays.false) (c.invalid_transition.ensures _ _)
+returns-then-not-stays c = rw (c.invalid_transition.ensures, not-false _ (sym c.ne.ensures ∙ c.if-ne.false), ← c.same_address.ensures, c.if-not-same_address.false, ← c.stays.ensures, c.if-not-stays.true)
 
 pub returns : goal.returns
 unfolding owned_rule
-returns c = rw (eq-eqb _ _ c.if-made-spent.false, ← c.same_address.ensures, c.if-same_address.false)
+returns c = rw (not-false _ (sym c.ne.ensures ∙ c.if-ne.false), ← c.same_address.ensures, c.if-not-same_address.false, ← c.stays.ensures, c.if-not-stays.false) (names-pass _ _ _)

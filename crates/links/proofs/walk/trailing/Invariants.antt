@@ -1,4 +1,3 @@
-use Prim.Native.Nat.{◌-◌}
 use Rattle.links.specs.Rules.{linked, unpaired}
 use Rattle.links.specs.Workers.{outputs_in}
 use Rattle.links.proofs.Unpaired.{Trailing}
@@ -6,6 +5,3 @@ use Rattle.links.proofs.walk.trailing.Given as goal
 
 abbrev pub invariant-loop-k : goal.invariant-loop-k
 invariant-loop-k l = Trailing l.tx l.n l.left (linked l.n l.linked_outputs l.name_inputs) l.c.position l.k (unpaired l.n (linked l.n l.linked_outputs l.name_inputs) (outputs_in l.tx l.left l.at))
-
-abbrev pub decreases-loop-k : goal.decreases-loop-k
-decreases-loop-k l = l.left - l.k

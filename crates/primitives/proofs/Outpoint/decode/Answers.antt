@@ -1,17 +1,15 @@
-use mathlib.Core.Path.{refl}
+use Rattle.refusal.proofs.Outcomes.{raised}
 use Rattle.primitives.specs.Outpoints.{outpoint_at}
-use Rattle.encoding.specs.Wire.{bytes_at}
-use Rattle.encoding.proofs.Fixed.{array-found, array-refused}
 use Rattle.primitives.proofs.Outpoint.decode.Goals as goal
 
-pub returns-in-Value : goal.returns-in-Value
+pub returns-in_err-hash : goal.returns-in_err-hash
 unfolding outpoint_at
-returns-in-Value c = rw (array-found 32 _ (bytes_at 32 c.args.s.now c.args.c.position) c.read_array-hash.ensures c.in-To.is refl, ← c.read_u32_le.ensures, c.in-Value.is)
+returns-in_err-hash c = rw (raised c.from_residual.ensures, ← c.read_array.ensures, c.in_err-hash.was)
 
-pub returns-in-Refused-read_u32_le : goal.returns-in-Refused-read_u32_le
+pub returns-in_err-index : goal.returns-in_err-index
 unfolding outpoint_at
-returns-in-Refused-read_u32_le c = rw (array-found 32 _ (bytes_at 32 c.args.s.now c.args.c.position) c.read_array-hash.ensures c.in-To.is refl, ← c.read_u32_le.ensures, c.in-Refused-read_u32_le.is, c.refused.ensures)
+returns-in_err-index c = rw (raised c.from_residual-in_err-index.ensures, ← c.read_array.ensures, c.in_ok-hash.was, ← c.read_le.ensures, c.in_err-index.was)
 
-pub returns-in-Refused : goal.returns-in-Refused
+pub returns : goal.returns
 unfolding outpoint_at
-returns-in-Refused c = rw (array-refused 32 _ (bytes_at 32 c.args.s.now c.args.c.position) c.read_array-hash.ensures c.in-Refused.is refl, c.refused-in-Refused.ensures)
+returns c = rw (← c.read_array.ensures, c.in_ok-hash.was, ← c.read_le.ensures, c.in_ok-index.was)

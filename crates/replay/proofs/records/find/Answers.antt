@@ -1,15 +1,12 @@
-use borrow.Author.Tests.{lt-ltb, le-ltb}
+use mathlib.Core.Path.{sym, ◌∙◌}
+use Prim.Native.Nat.{◌+◌}
+use borrow.Author.Tests.{le-ltb}
 use Rattle.replay.specs.Answers.{record_at}
+use Rattle.replay.proofs.Entries.{unknown, unnumbered}
 use Rattle.replay.proofs.records.find.Goals as goal
 
-pub returns-then-left-lt9 : goal.returns-then-left-lt9
+pub returns-in_err-entry-clause-record : goal.returns-in_err-entry-clause-record
 unfolding record_at
-returns-then-left-lt9 c = (simp (lt-ltb _ _ c.if-left-lt9.true), tt)
-
-pub returns-then-left-n : goal.returns-then-left-n
-unfolding record_at
-returns-then-left-n c = (rw (le-ltb _ _ c.if-left-lt9.false, ← c.size_at-n.ensures, lt-ltb _ _ c.if-left-n.true), tt)
-
-pub returns : goal.returns
-unfolding record_at
-returns c = (rw (le-ltb _ _ c.if-left-lt9.false, ← c.size_at-n.ensures, le-ltb _ _ c.if-left-n.false) c.answered.ensures.0, c.answered.ensures.1)
+returns-in_err-entry-clause-record c =
+    let none = unnumbered _ c.try_from.result (sym c.ok.ensures.value ∙ c.in_err-entry.was) c.try_from.ensures in
+    rw (c.from_residual.ensures, le-ltb _ _ c.if-left-lt9.false, ← c.size_at-n.ensures, le-ltb _ _ c.if-left-n.false) (sym (unknown c.args.s.now _ (c.args.at + 5) (c.args.at + 5 + c.size_at-n.result) none))

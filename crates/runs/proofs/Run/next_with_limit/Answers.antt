@@ -2,14 +2,14 @@ use Rattle.std.proofs.Common.{eq-eqb, ne_eqb}
 use Rattle.runs.specs.Run.{step_at}
 use Rattle.runs.proofs.Run.next_with_limit.Goals as goal
 
-pub returns-then-cursor-s : goal.returns-then-cursor-s
+pub returns-then-self-s : goal.returns-then-self-s
 unfolding step_at
-returns-then-cursor-s c = rw (eq-eqb _ _ c.if-cursor-s.true)
+returns-then-self-s c = rw (eq-eqb _ _ c.if-self-s.true)
 
-pub returns-in-Accepted : goal.returns-in-Accepted
+pub returns-in-Ok : goal.returns-in-Ok
 unfolding step_at
-returns-in-Accepted c = rw (ne_eqb _ _ c.if-cursor-s.false, ← c.read.ensures, c.in-Accepted.is, ← c.wrapping_add_usize-passed.ensures.value)
+returns-in-Ok c = rw (ne_eqb _ _ c.if-self-s.false, ← c.read.ensures, c.in-Ok.is)
 
-pub returns-in-Refused : goal.returns-in-Refused
+pub returns-in-Err : goal.returns-in-Err
 unfolding step_at
-returns-in-Refused c = rw (ne_eqb _ _ c.if-cursor-s.false, ← c.read.ensures, c.in-Refused.is)
+returns-in-Err c = rw (ne_eqb _ _ c.if-self-s.false, ← c.read.ensures, c.in-Err.is)

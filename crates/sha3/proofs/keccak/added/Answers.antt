@@ -1,7 +1,8 @@
-use Rattle.sha3.specs.Keccak.{lane, plane, parity}
+use Rattle.std.proofs.Common.{arith}
+use Rattle.std.proofs.lemmas.Grind.{common_steps}
+use Rattle.sha3.specs.Keccak.{plane}
 use Rattle.sha3.proofs.keccak.added.Goals as goal
 
 pub returns : goal.returns
-unfolding lane plane parity
-returns c =
-    rw (c.parity_of-c4.ensures, c.parity_of-c3.ensures, c.parity_of-c2.ensures, c.parity_of-c1.ensures, c.parity_of-c0.ensures)
+unfolding plane
+returns c = grind (arith, common_steps)

@@ -1,5 +1,4 @@
-use Prim.Native.Nat.{◌+◌}
-use native.Mathlib.Omega.{arith}
+use Rattle.std.proofs.Common.{◌+◌, arith}
 use Rattle.sha3.specs.Keccak.{parity}
 use Rattle.sha3.proofs.Planes.{lane-is}
 use Rattle.sha3.proofs.keccak.parity_of.Goals as goal

@@ -1,29 +1,12 @@
-use mathlib.Core.Path.{◌≡◌, refl, ap, ◌∙◌}
-use Prim.Native.Nat.{ℕ}
-use native.Mathlib.Omega.{arith}
-use borrow.Author.Rules.{rules}
-use Rattle.sha3.specs.Keccak.{shifted, register, rounds, keccak_p}
-use Rattle.sha3.proofs.Constants.{turned, spelt, right, computed, one_more}
+use Rattle.std.proofs.Common.{ℕ, Iter, refl, ap, ◌∙◌, rules}
+use Rattle.sha3.specs.Keccak.{shifted, register}
+use Rattle.sha3.proofs.Constants.{turned, spelt, right, round_with, all-rounds}
 use Rattle.sha3.proofs.keccak.permute.Goals as goal
 
-pub loop-i-init : goal.loop-i-init
-unfolding turned spelt right shifted register rounds
-loop-i-init c = (search rules, computed _ refl tt, refl)
-
-pub overflow_add-i : goal.overflow_add-i
-overflow_add-i c = omega arith
-
-pub loop-i-smaller : goal.loop-i-smaller
-loop-i-smaller c = omega arith
-
-pub loop-i-preserved : goal.loop-i-preserved
-loop-i-preserved c =
-    let l = c.loop-i in
-    (omega arith, l.invariant.1, c.round-t.ensures ∙ one_more _ c.args.a l.s l.i l.invariant.1 c.loop-i-test.true l.invariant.2)
-
 pub returns : goal.returns
-unfolding keccak_p
+unfolding turned spelt right shifted register
 returns c =
-    let l = c.loop-i in
-    let e : l.i ≡ 24 = omega arith in
-    l.invariant.2 ∙ ap (λ (n : ℕ). rounds n c.args.a) e
+    let h = c.fold.ensures.runs in
+    let p = c.copied.ensures.runs h.0 h.0.seen h.1 in
+    let table = p.2.2 ∙ (c.iter.ensures.runs p.0 p.0.seen).4 (p.2.0 ∙ h.2) ∙ ap (λ (i : Iter ℕ). i.rest.now) p.1 ∙ c.iter.ensures.rest in
+    all-rounds c.args.a (h.3 round_with (λ s y r f k. search rules)) table refl tt

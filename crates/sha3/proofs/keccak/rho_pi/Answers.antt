@@ -1,15 +1,8 @@
-use mathlib.Core.Path.{◌≡◌, ap}
-use mathlib.Core.List.{List}
-use Prim.Native.Nat.{ℕ}
-use lib.ListN.{length}
-use Rattle.words.proofs.Entries.{all-entries}
-use Rattle.sha3.specs.Keccak.{lane, plane, state, walk, rho, pi}
-use borrow.Author.Rules.{rules}
+use Rattle.std.proofs.Common.{◌≡◌, length, rules}
+use Rattle.sha3.proofs.Planes.{each-moved}
 use Rattle.sha3.proofs.keccak.rho_pi.Goals as goal
 
 pub returns : goal.returns
-unfolding lane plane state walk rho pi
 returns c =
-    let a = c.args.a in
-    let long : length a ≡ 25 = search rules in
-    ap (λ (l : List ℕ). pi (rho l)) (all-entries 25 a long)
+    let long : length c.args.a ≡ 25 = search rules in
+    each-moved c.args.a long c.rotate_left.ensures c.rotate_left-2.ensures c.rotate_left-3.ensures c.rotate_left-4.ensures c.rotate_left-5.ensures c.rotate_left-6.ensures c.rotate_left-7.ensures c.rotate_left-8.ensures c.rotate_left-9.ensures c.rotate_left-10.ensures c.rotate_left-11.ensures c.rotate_left-12.ensures c.rotate_left-13.ensures c.rotate_left-14.ensures c.rotate_left-15.ensures c.rotate_left-16.ensures c.rotate_left-17.ensures c.rotate_left-18.ensures c.rotate_left-19.ensures c.rotate_left-20.ensures c.rotate_left-21.ensures c.rotate_left-22.ensures c.rotate_left-23.ensures c.rotate_left-24.ensures

@@ -1,16 +1,14 @@
-use native.Mathlib.Omega.{arith}
-use mathlib.Core.Path.{◌≡◌, ap, ◌∙◌}
-use Prim.Native.Nat.{ℕ, ◌-◌}
-use mathlib.Core.List.{List}
-use lib.ListN.{length, take, drop, length-drop}
-use lib.Seq.{take_all}
-use Rattle.words.specs.Words.{le}
-use Rattle.words.proofs.Le.{le-cut}
+use mathlib.Core.Path.{ap, ◌∙◌}
+use mathlib.Core.List.{List, ◌++◌}
+use Prim.Native.Nat.{ℕ}
+use lib.ListN.{length, drop, replicate}
+use Rattle.std.specs.Int.{w64, from_le_bytes}
+use Rattle.words.proofs.Le.{from-padded}
 use Rattle.words.proofs.load.cut_word.Goals as goal
 
 pub returns : goal.returns
 returns c =
-    let m = c.args.m.now in
-    let at = c.args.at in
-    let e : take (length m - at) (drop at m) ≡ drop at m = take_all (length m - at) (drop at m) (simp length-drop (omega arith)) in
-    c.whole_word.ensures ∙ le-cut (take (length m - at) (drop at m)) _ (rw e (simp length-drop (omega arith))) c.put_bytes.ensures.1 ∙ ap (λ (l : List ℕ). le (take 8 l)) e
+    let t = c.args.tail.now in
+    c.from_le_bytes.ensures
+    ∙ ap (λ (l : List ℕ). from_le_bytes w64 (l ++ drop (length t) (replicate 8 0))) c.copy_from_slice.ensures.after
+    ∙ from-padded t c.requires

@@ -1,29 +1,29 @@
 use native.Mathlib.Omega.{arith}
 use borrow.Author.Tests.{le-ltb, eq-eqb, ne_eqb}
-use Rattle.refusal.proofs.Outcomes.{told}
+use Rattle.refusal.proofs.Outcomes.{told, raised}
 use Rattle.encoding.specs.Wire.{compact_at}
-use Rattle.encoding.specs.Paper.{u8_paper}
+use Rattle.encoding.specs.Paper.{read_as}
 use Rattle.encoding.proofs.Fixed.{tag-above}
 use Rattle.encoding.proofs.read.Cursor.longer_compact.Goals as goal
 
-pub returns-then-tag : goal.returns-then-tag
+pub returns-in_err-tag : goal.returns-in_err-tag
 unfolding compact_at
-returns-then-tag c =
-    let t = tag-above _ _ (omega arith) c.requires (told u8_paper c.read_u8.ensures c.in-Value.is) in
-    rw (← c.read_u8.ensures, c.in-Value.is, le-ltb _ _ t, eq-eqb _ _ c.if-tag.true, ← c.fixed.ensures) c.shortest.ensures
+returns-in_err-tag c = rw (raised c.from_residual.ensures, ← c.read_le.ensures, c.in_err-tag.was)
 
-pub returns-then-tag-2 : goal.returns-then-tag-2
+pub returns-in-253 : goal.returns-in-253
 unfolding compact_at
-returns-then-tag-2 c =
-    let t = tag-above _ _ (omega arith) c.requires (told u8_paper c.read_u8.ensures c.in-Value.is) in
-    rw (← c.read_u8.ensures, c.in-Value.is, le-ltb _ _ t, ne_eqb _ _ c.if-tag.false, eq-eqb _ _ c.if-tag-2.true, ← c.fixed-then-tag-2.ensures) c.shortest-then-tag-2.ensures
+returns-in-253 c =
+    let t = tag-above _ _ (omega arith) c.requires (told (read_as _) c.read_le.ensures c.in_ok-tag.was) in
+    rw (← c.read_le.ensures, c.in_ok-tag.was, le-ltb _ _ t, eq-eqb _ _ c.in-253.is, ← c.fixed.ensures) c.shortest.ensures
 
-pub returns-else-tag-2 : goal.returns-else-tag-2
+pub returns-in-254 : goal.returns-in-254
 unfolding compact_at
-returns-else-tag-2 c =
-    let t = tag-above _ _ (omega arith) c.requires (told u8_paper c.read_u8.ensures c.in-Value.is) in
-    rw (← c.read_u8.ensures, c.in-Value.is, le-ltb _ _ t, ne_eqb _ _ c.if-tag.false, ne_eqb _ _ c.if-tag-2.false, ← c.fixed-in-Value.ensures) c.shortest-in-Value.ensures
+returns-in-254 c =
+    let t = tag-above _ _ (omega arith) c.requires (told (read_as _) c.read_le.ensures c.in_ok-tag.was) in
+    rw (← c.read_le.ensures, c.in_ok-tag.was, le-ltb _ _ t, ne_eqb c.in_ok-tag.tag 253 (omega arith), eq-eqb _ _ c.in-254.is, ← c.fixed-in-254.ensures) c.shortest-in-254.ensures
 
-pub returns-in-Refused : goal.returns-in-Refused
+pub returns-in_default : goal.returns-in_default
 unfolding compact_at
-returns-in-Refused c = rw (← c.read_u8.ensures, c.in-Refused.is)
+returns-in_default c =
+    let t = tag-above _ _ (omega arith) c.requires (told (read_as _) c.read_le.ensures c.in_ok-tag.was) in
+    rw (← c.read_le.ensures, c.in_ok-tag.was, le-ltb _ _ t, ne_eqb c.in_ok-tag.tag 253 (omega arith), ne_eqb c.in_ok-tag.tag 254 (omega arith), ← c.fixed-in_default.ensures) c.shortest-in_default.ensures

@@ -10,4 +10,4 @@ pub longer_compact-requires-then-tag-gt252 : goal.longer_compact-requires-then-t
 longer_compact-requires-then-tag-gt252 c = λ h. omega arith
 
 pub returns : goal.returns
-returns c = rw c.wide.ensures (sym (compact-byte _ _ (omega arith) (omega arith) (omega arith)))
+returns c = rw c.from.ensures (sym (compact-byte _ _ (omega arith) (omega arith) (omega arith)))

@@ -1,7 +1,0 @@
-use Rattle.capi.proofs.covenant_answer.Goals as goal
-
-pub returns-in-Accepted : goal.returns-in-Accepted
-returns-in-Accepted c = rw (c.in-Accepted.is, c.passed.ensures)
-
-pub returns-in-Refused : goal.returns-in-Refused
-returns-in-Refused c = rw (c.in-Refused.is, c.stopped.ensures)

@@ -1,6 +1,0 @@
-use mathlib.Core.Path.{ap, ◌∙◌}
-use Rattle.capi.specs.Flat.{write_flat}
-use Rattle.capi.proofs.items.turgamysk_covenant_encoded_size.Goals as goal
-
-pub returns : goal.returns
-returns c = c.write_answer.ensures ∙ ap write_flat c.encoded_size.ensures

@@ -1,6 +1,0 @@
-use mathlib.Core.Path.{ap, ◌∙◌}
-use Rattle.capi.specs.Items.{place_flat}
-use Rattle.capi.proofs.items.turgamysk_covenant_item.Goals as goal
-
-pub returns : goal.returns
-returns c = c.place_answer.ensures ∙ ap place_flat c.item.ensures

@@ -1,4 +1,0 @@
-use Rattle.capi.proofs.stopped.Goals as goal
-
-pub returns : goal.returns
-returns c = rw (c.number.ensures, c.carried_by-carried.ensures)

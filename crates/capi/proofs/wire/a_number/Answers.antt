@@ -1,4 +1,0 @@
-use Rattle.capi.proofs.wire.a_number.Goals as goal
-
-pub returns : goal.returns
-returns c = rw c.passed.ensures

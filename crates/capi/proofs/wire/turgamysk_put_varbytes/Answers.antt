@@ -1,6 +1,0 @@
-use mathlib.Core.Path.{ap, ◌∙◌}
-use Rattle.capi.specs.Flat.{write_flat}
-use Rattle.capi.proofs.wire.turgamysk_put_varbytes.Goals as goal
-
-pub returns : goal.returns
-returns c = record { value = c.write_answer.ensures ∙ ap write_flat c.put_varbytes.ensures.0; dest_after = c.put_varbytes.ensures.1 }

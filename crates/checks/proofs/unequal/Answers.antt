@@ -1,8 +1,0 @@
-use borrow.Author.Tests.{eq-eqb, ne_eqb}
-use Rattle.checks.proofs.unequal.Goals as goal
-
-pub returns-then-k-eq0 : goal.returns-then-k-eq0
-returns-then-k-eq0 c = rw (eq-eqb _ _ c.if-k-eq0.true)
-
-pub returns : goal.returns
-returns c = rw (ne_eqb _ _ c.if-k-eq0.false)

@@ -1,7 +1,0 @@
-use Rattle.decoder.proofs.ended.Goals as goal
-
-pub returns-in-Span : goal.returns-in-Span
-returns-in-Span c = rw c.in-Span.is c.ending.ensures
-
-pub returns-in-Refused : goal.returns-in-Refused
-returns-in-Refused c = rw c.in-Refused.is

@@ -1,7 +1,0 @@
-use Rattle.decoder.proofs.whole.Goals as goal
-
-pub returns-in-Value : goal.returns-in-Value
-returns-in-Value c = rw c.in-Value.is c.ended.ensures
-
-pub returns-in-Refused : goal.returns-in-Refused
-returns-in-Refused c = rw c.in-Refused.is

@@ -1,7 +1,0 @@
-use Rattle.encoding.proofs.put.answered.Goals as goal
-
-pub returns-then-done : goal.returns-then-done
-returns-then-done c = rw c.if-done.true
-
-pub returns-else-done : goal.returns-else-done
-returns-else-done c = rw c.if-done.false
