@@ -1,5 +1,5 @@
 -- The inputs, one after the other: positions in the sheets stand for what is left of the lists.
-use mathlib.Core.Path.{◌≡◌, refl, ap, ap₂, sym, ◌∙◌}
+use mathlib.Core.Path.{◌≡◌, refl, ap, ap₂, sym, subst, ◌∙◌}
 use Prim.Native.Nat.{ℕ, zero, suc, ◌+◌, ◌-◌, ◌*◌, ◌^◌, ◌≤◌, ◌<◌}
 use native.Mathlib.Omega.{arith}
 use native.Mathlib.Numerals.{add-one}
@@ -135,16 +135,20 @@ pub record Walking (tx coins : List ℕ) (n outputs i outs names a b p : ℕ) (w
 module _ (tx coins : List ℕ) (n outputs : ℕ) {i outs names a b p : ℕ} {whole : Verdict} (r : Walking tx coins n outputs i outs names a b p whole) where
   -- all inputs passed: only outputs are left
   module _ (h : n ≤ i) where
-    pub leftover : Outputs tx (outputs - i) p
-    leftover = (r.ps, r.ends.1, r.outputs-left)
+    all_passed : i ≡ n
+    all_passed = omega (arith, r.bound)
 
-    pub ended : unpaired n (linked n outs names) (outputs_in tx (outputs - i) p) ≡ whole
+    pub leftover : Outputs tx (outputs - n) p
+    leftover = subst (λ (m : ℕ). Outputs tx (outputs - m) p) all_passed (r.ps, r.ends.1, r.outputs-left)
+
+    pub ended : unpaired n (linked n outs names) (outputs_in tx (outputs - n) p) ≡ whole
     unfolding links_from
     ended =
-        let k : i ≡ n = omega (arith, r.bound) in
+        let k : i ≡ n = all_passed in
         let z : n - i ≡ 0 = omega arith in
         let none : r.xs ≡ [] = many-none (input_at tx) {n = n - i} a z r.inputs in
-        rw r.outputs-left (rw (none, k) at r.rests)
+        let left : many_at (place_at 0 tx) (outputs - n) p ≡ ok r.ps r.ends.1 = rw k at r.outputs-left in
+        rw left (rw (none, k) at r.rests)
 
   module _ (h : i < n) where
     first-input : Next (input_at tx) (n - (i + 1)) a r.xs r.ends.0

@@ -137,49 +137,48 @@ pub(crate) fn walk(
     requires { Sheets tx.now coins.now n outputs n }
     ensures { verified_paper result ≡ answer_of (links_from rule 0 0 0 (inputs_in tx.now n) (coins_in coins.now n) (outputs_in tx.now outputs (4 + n * 36))) }
 {
-    let mut i = 0;
     let mut input_position = 4;
     let mut coin_position = 4;
     let mut output_position = 4 + n * 36;
     let mut linked_outputs = 0;
     let mut name_inputs = 0;
-    'inputs: loop {
-        let left = outputs.saturating_sub(i);
-        if n <= i {
-            break 'inputs trailing(tx, output_position, n, left, linked_outputs, name_inputs);
-        }
-        let expected = outpoint_at(tx, input_position);
-        let actual = outpoint_at(coins, coin_position);
-        if expected != actual {
-            break 'inputs Err(mismatch(i, expected, actual));
-        }
-        let turn = match start_row(tx, coins, i, coin_position, output_position, left) {
-            Ok(turn) => turn,
-            Err(refusal) => break 'inputs Err(LinkStop::from(refusal)),
-        };
-        for k in turn.first..2 {
-            let pair = match pair_of(turn.spent_items, turn.made_items, k) {
-                Ok(pair) => pair,
-                Err(field) => {
-                    let refusal = Refusal::MalformedCovenant { input: i, field };
-                    break 'inputs Err(LinkStop::from(refusal));
-                }
+    'inputs: {
+        for i in 0..n {
+            let left = outputs.saturating_sub(i);
+            let expected = outpoint_at(tx, input_position);
+            let actual = outpoint_at(coins, coin_position);
+            if expected != actual {
+                break 'inputs Err(mismatch(i, expected, actual));
+            }
+            let turn = match start_row(tx, coins, i, coin_position, output_position, left) {
+                Ok(turn) => turn,
+                Err(refusal) => break 'inputs Err(LinkStop::from(refusal)),
             };
-            for j in 0..pair.width {
-                if coins[pair.spent + j] != tx[pair.created + j] {
-                    break 'inputs Err(LinkStop::from(unequal(i, k)));
+            for k in turn.first..2 {
+                let pair = match pair_of(turn.spent_items, turn.made_items, k) {
+                    Ok(pair) => pair,
+                    Err(field) => {
+                        let refusal = Refusal::MalformedCovenant { input: i, field };
+                        break 'inputs Err(LinkStop::from(refusal));
+                    }
+                };
+                for j in 0..pair.width {
+                    if coins[pair.spent + j] != tx[pair.created + j] {
+                        break 'inputs Err(LinkStop::from(unequal(i, k)));
+                    }
                 }
             }
+            let links = match finish_row(tx, coins, i, turn) {
+                Ok(links) => links,
+                Err(refusal) => break 'inputs Err(LinkStop::from(refusal)),
+            };
+            linked_outputs += usize::from(links);
+            name_inputs += usize::from(is_name(turn.spent.kind));
+            coin_position = turn.next.coin;
+            output_position = turn.next.output;
+            input_position += 36;
         }
-        let links = match finish_row(tx, coins, i, turn) {
-            Ok(links) => links,
-            Err(refusal) => break 'inputs Err(LinkStop::from(refusal)),
-        };
-        linked_outputs += usize::from(links);
-        name_inputs += usize::from(is_name(turn.spent.kind));
-        coin_position = turn.next.coin;
-        output_position = turn.next.output;
-        input_position += 36;
-        i += 1;
+        let left = outputs.saturating_sub(n);
+        trailing(tx, output_position, n, left, linked_outputs, name_inputs)
     }
 }

@@ -11,8 +11,5 @@ invariant-loop-j l = comparing.Compared l.coins l.tx l.pair.spent l.pair.created
 abbrev pub invariant-loop-k : goal.invariant-loop-k
 invariant-loop-k l = Turning l.tx l.coins l.i l.turn l.k (turn_at l.tx l.coins l.i l.coin_position l.output_position l.left)
 
-abbrev pub invariant-inputs : goal.invariant-inputs
-invariant-inputs l = walking.Walking l.tx l.coins l.n l.outputs l.i l.linked_outputs l.name_inputs l.input_position l.coin_position l.output_position (links_from rule 0 0 0 (inputs_in l.tx l.n) (coins_in l.coins l.n) (outputs_in l.tx l.outputs (4 + l.n * 36)))
-
-abbrev pub decreases-inputs : goal.decreases-inputs
-decreases-inputs l = l.n - l.i
+abbrev pub invariant-loop-i : goal.invariant-loop-i
+invariant-loop-i l = walking.Walking l.tx l.coins l.n l.outputs l.i l.linked_outputs l.name_inputs l.input_position l.coin_position l.output_position (links_from rule 0 0 0 (inputs_in l.tx l.n) (coins_in l.coins l.n) (outputs_in l.tx l.outputs (4 + l.n * 36)))
