@@ -110,7 +110,7 @@ pub fn encoded_size(state: NameState) -> Result<usize, Refusal>
 
 // ---- the bytes, where there is room; each answers where they end
 
-// A compact size; where there is room, all of it is put.
+// A compact size: there is room for it, so all of it is put, and the 0 is never taken.
 fn put_size(d: &mut [u8], at: usize, v: u64) -> usize
     requires { at + length (compact v) ≤ length d.old }
     ensures { Puts at (compact v) d.old result d.new }
