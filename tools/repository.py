@@ -22,8 +22,8 @@ PROOF_ASIDE = re.compile(rf'\{{-.*?-\}}|"(?:\\.|[^"\\])*"|(?<![^{SEPARATORS}])--
 
 FUNCTION = re.compile(r'\b(?P<public>pub\s+)?(?:(?:const|unsafe|extern\s*(?:"[^"]*")?)\s+)*fn\s+(?P<name>\w+)')
 BLOCK = re.compile(
-    r"^[ \t]*(?:pub(?:\([^()]*\))?\s+)?(?:unsafe\s+)?(?P<kind>impl|mod)\b\s*(?:<(?:[^<>{};]|<[^<>{};]*>)*>\s*)?"
-    r"(?:[^;{}]*\bfor\s+)?(?:\w+\s*::\s*)*(?P<name>\w+)[^;{}]*\{",
+    r"^[ \t]*(?:(?P<public>pub\s+)|pub\([^()]*\)\s+)?(?:unsafe\s+)?(?P<kind>impl|mod|trait)\b\s*"
+    r"(?:<(?:[^<>{};]|<[^<>{};]*>)*>\s*)?(?:[^;{}]*\bfor\s+)?(?:\w+\s*::\s*)*(?P<name>\w+)[^;{}]*\{",
     re.MULTILINE,
 )
 HEADER_TOKEN = re.compile(r"\w+|[()\[\]{};]")
@@ -190,19 +190,20 @@ def functions_of(code):
     """The functions of a Rattle file, from its code without comments."""
     blocks = []
     for block in BLOCK.finditer(code):
-        blocks.append((block["kind"], block["name"], block.end(), closing_brace(code, block.end() - 1) or len(code)))
+        kind = "public trait" if block["kind"] == "trait" and block["public"] else block["kind"]
+        blocks.append((kind, block["name"], block.end(), closing_brace(code, block.end() - 1) or len(code)))
     functions = []
     for match in FUNCTION.finditer(code):
         around = [(kind, name) for kind, name, start, end in blocks if start <= match.start() < end]
         modules = tuple(name for kind, name in around if kind == "mod")
-        owner = "".join(name for kind, name in around if kind == "impl")
+        owner = "".join(name for kind, name in around if kind != "mod")
+        # The methods of a public trait are as public as it is, with no word of their own.
+        public = bool(match["public"]) or any(kind == "public trait" for kind, _ in around)
         line = line_at(code, match.start("name"))
         header = header_from(code, match.end())
         signature = code[match.end() : header[1]] if header else ""
         parameters = frozenset(PARAMETER.findall(re.split(r"->|\b(?:requires|ensures|ghost)\b", signature)[0]))
-        functions.append(
-            Function(match["name"], modules, owner, line, bool(match["public"]), header and header[0], parameters)
-        )
+        functions.append(Function(match["name"], modules, owner, line, public, header and header[0], parameters))
     return functions
 
 

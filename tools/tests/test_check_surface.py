@@ -263,6 +263,18 @@ class CheckSurface(TreeCase):
             ASKING_FUNCTION, "1: reader::more::ask has a requires, and docs/EXCEPTIONS.md does not list it"
         )
 
+    def test_requires_of_a_public_traits_method(self):
+        self.assert_finds_in_library(
+            "pub trait Asking {\n    fn ask(x: u8) -> u8\n        requires { x < 9 }\n        ensures { result ≡ x };\n}\n",
+            "2: reader::more::Asking::ask has a requires, and docs/EXCEPTIONS.md does not list it",
+        )
+
+    def test_method_of_a_private_trait(self):
+        self.assert_passes(
+            {"crates/reader/src/more.rt": "trait Bare {\n    fn bare(x: u8) -> u8;\n}\n"},
+            "surface: 1 libraries, 9 public functions, 0 findings",
+        )
+
     def test_requires_alone(self):
         self.assert_finds_in_library(
             "pub fn ask(x: u8)\n    requires low { x < 9 }\n{\n}\n",

@@ -3,13 +3,17 @@ use mathlib.Core.Path.{◌≡◌, refl, ap, sym, ◌∙◌}
 use Prim.Native.Nat.{ℕ, ◌+◌, ◌^◌, ◌≤◌, ◌<◌}
 use native.Mathlib.Omega.{arith}
 use mathlib.Core.List.{List}
-use mathlib.Core.Option.{some, none}
+use mathlib.Core.Bool.{Bool, true, false, ◌&&◌}
+use mathlib.Core.Option.{Option, some, none}
 use lib.ListN.{length, take, drop}
+use lib.Dec.{leb, eqb}
 use borrow.Author.Tests.{eq-eqb, ne_eqb, le-leb, lt-leb, le-ltb, lt-ltb}
 use Rattle.std.specs.Prelude as code
 use Rattle.std.specs.Prelude.{Result, Ok, Err, Some, None}
 use Rattle.std.specs.Result.{result_ok}
-use Rattle.words.specs.Words.{le}
+use Rattle.words.specs.Words.{le, Bytes}
+use Rattle.words.specs.Buffers.{pick}
+use Rattle.words.proofs.Le.{le-under}
 use Rattle.words.proofs.Cases.{by_order}
 use Rattle.refusal.specs.Outcome.{Stand, Outcome, ok, err, then, past, many_at}
 use Rattle.refusal.proofs.Outcomes.{never, then_ok, past-ok, past-err, past-then, then-err, then-past}
@@ -17,7 +21,7 @@ use Rattle.encoding.specs.Wire.{bytes_at, fixed_at}
 use Rattle.encoding.proofs.Fixed.{bytes_read}
 use Rattle.encoding.proofs.Slice as slice
 use Rattle.covenants.specs.Covenant.{item_at, head_at}
-use Rattle.covenants.specs.Items.{found, seek_at, of_width, number_in}
+use Rattle.covenants.specs.Items.{found, seek_at, spelled, of_width, number_in}
 use Rattle.covenants.proofs.Moves.{items-move, head_read}
 
 module _ (n : ℕ) (s : List ℕ) (start len : ℕ) where
@@ -56,6 +60,16 @@ module _ (n : ℕ) (s : List ℕ) (start len : ℕ) where
     pub number-none : {k : ℕ} {vs : List ℕ} {p : Stand} → fixed_at n s start ≡ err k vs p → none ≡ number_in n s (some (start, len))
     unfolding number_in fixed_at
     number-none e = rw (of-width-none (past-err (bytes_at n s start) (sym (past-then (bytes_at n s start) le) ∙ ap past e)))
+
+-- the number of an item of n bytes fits n bytes
+pub number-under : (n : ℕ) (s : List ℕ) (item : Option (ℕ × ℕ)) {v : ℕ} → Bytes s → number_in n s item ≡ some v → v < 256 ^ n
+unfolding number_in of_width
+number-under n s none b e = absurd (let z : ◌≡◌ {A = ℕ} 0 1 = cc in omega arith)
+number-under n s (some part) {v} b e = go (eqb part.1 n && leb (part.0 + part.1) (length s)) e
+  where
+    go : (t : Bool) → spelled (pick t (some (take n (drop part.0 s))) none) ≡ some v → v < 256 ^ n
+    go true e = let same : le (take n (drop part.0 s)) ≡ v = cc in rw same at (le-under s part.0 n n b (omega arith))
+    go false e = absurd (let z : ◌≡◌ {A = ℕ} 0 1 = cc in omega arith)
 
 -- ---- what `.ok()` keeps of a result
 

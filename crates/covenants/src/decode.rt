@@ -143,13 +143,16 @@ impl Covenant {
         }
         let begin = Cursor { position: 0 };
         let read = Covenant::decode_from_into(begin, s, most, starts, lens);
-        let (accepted, end) = read?;
-        match end.finish(s) {
-            Ok(_) => Ok((accepted, end)),
-            Err(stop) => {
-                clear(starts, lens);
-                Err(stop)
-            }
+        match read {
+            Ok((accepted, end)) => match end.finish(s) {
+                Ok(_) => Ok((accepted, end)),
+                Err(stop) => {
+                    clear(starts, lens);
+                    Err(stop)
+                }
+            },
+            // What was refused has left both arrays cleared.
+            Err(stop) => Err(stop),
         }
     }
 

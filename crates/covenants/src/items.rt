@@ -58,10 +58,9 @@ impl<'a> Directory<'a> {
         }
         let (start, len) = (self.starts[index], self.lens[index]);
         if has_room(self.source.len(), start, len) {
-            Some(Span { start, len })
-        } else {
-            None
+            return Some(Span { start, len });
         }
+        None
     }
 
     pub fn item_number<T: Integer>(self, index: usize) -> Option<T>

@@ -1,6 +1,6 @@
 -- Two results that meet a contract coincide, for each public function.
 use mathlib.Core.Path.{◌≡◌, ap₂}
-use Prim.Native.Nat.{ℕ}
+use Prim.Native.Nat.{ℕ, ◌%◌, ◌^◌}
 use mathlib.Core.List.{List}
 use Rattle.std.specs.Prelude.{Result}
 use Rattle.words.specs.Words.{bytes}
@@ -22,8 +22,8 @@ cut-one at needed e f = let w = one_each e f in ap₂ (λ x p. record { refusal 
 
 -- a number of a type of the trait: no other value is the same number
 module _ {T : Type 0} (number : T → ℕ) (same : (x y : T) → number x ≡ number y → x ≡ y) where
-  pub from-u64-one : (v : ℕ) {x x' : T} → number x ≡ v → number x' ≡ v → x ≡ x'
-  from-u64-one v {x} {x'} e f = same x x' (one e f)
+  pub from-u64-one : (width v : ℕ) {x x' : T} → number x ≡ v % 256 ^ width → number x' ≡ v % 256 ^ width → x ≡ x'
+  from-u64-one width v {x} {x'} e f = same x x' (one e f)
 
   pub into-u64-one : (x : T) {v v' : ℕ} → v ≡ number x → v' ≡ number x → v ≡ v'
   into-u64-one x = one

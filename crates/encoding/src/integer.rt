@@ -1,5 +1,5 @@
 // Unsigned numbers as the wire has them: so many bytes, the lowest first.
-ghost use Rattle.std.specs.Prelude.{◌≡◌, ℕ, ◌^◌, ◌<◌, ◌≤◌};
+ghost use Rattle.std.specs.Prelude.{◌≡◌, ℕ, ◌^◌, ◌%◌, ◌≤◌};
 ghost use Rattle.std.proofs.Common.{rules};
 
 pub trait Integer {
@@ -11,9 +11,9 @@ pub trait Integer {
 
     const WIDTH: usize;
 
+    // What a number's lowest bytes spell: the number itself, where it is below 256 ^ WIDTH.
     fn from_u64(v: u64) -> Self
-        requires { v < 256 ^ WIDTH }
-        ensures { number result ≡ v };
+        ensures { number result ≡ v % 256 ^ WIDTH };
 
     fn into_u64(self) -> u64
         ensures { result ≡ number self };
@@ -32,7 +32,7 @@ impl Integer for u8 {
     const WIDTH: usize = 1;
 
     fn from_u64(v: u64) -> u8 {
-        v as u8
+        (v % 256) as u8
     }
 
     fn into_u64(self) -> u64 {
@@ -52,7 +52,7 @@ impl Integer for u16 {
     const WIDTH: usize = 2;
 
     fn from_u64(v: u64) -> u16 {
-        v as u16
+        (v % 65536) as u16
     }
 
     fn into_u64(self) -> u64 {
@@ -72,7 +72,7 @@ impl Integer for u32 {
     const WIDTH: usize = 4;
 
     fn from_u64(v: u64) -> u32 {
-        v as u32
+        (v % 4294967296) as u32
     }
 
     fn into_u64(self) -> u64 {

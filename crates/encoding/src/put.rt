@@ -38,20 +38,22 @@ pub fn put_bytes(d: &mut [u8], at: usize, value: &[u8]) -> Result<usize, Refusal
     answered(words::store::put_bytes(d, at, value), value.len())
 }
 
-// How many bytes a compact size takes.
+// How many bytes a compact size takes. By returns: of one choice among the four the compiler makes a row of moves, all
+// of which are made, and most sizes are of one byte.
 #[tactic(auto, unfolding(crate::specs::Wire::compact_size))]
 pub fn compact_size_len(value: u64) -> usize
     ensures { result ≡ compact_size value }
 {
     if value < 253 {
-        1
-    } else if value < 65536 {
-        3
-    } else if value < 4294967296 {
-        5
-    } else {
-        9
+        return 1;
     }
+    if value < 65536 {
+        return 3;
+    }
+    if value < 4294967296 {
+        return 5;
+    }
+    9
 }
 
 // A tag and the n lowest bytes of v.

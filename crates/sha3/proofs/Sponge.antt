@@ -81,12 +81,12 @@ chunk-at n (suc k) m (suc i) h =
 
 -- one block more of the whole ones
 pub absorbs-chunk :
-    (s m : List ℕ) (i : ℕ) {chunks : List (List ℕ)} {t : List ℕ} → i < length m / 136 → chunks ≡ first_chunks 136 (length m / 136) m →
-    t ≡ block keccak_p 1088 s (bits_of 8 (get_or chunks i [])) → absorbs t (drop (136 * (i + 1)) m) ≡ absorbs s (drop (136 * i) m)
-absorbs-chunk s m i {chunks} {t} here front e =
-    let b : List ℕ = take 136 (drop (136 * i) m) in
+    (s m : List ℕ) (i : ℕ) {b t : List ℕ} → t ≡ block keccak_p 1088 s (bits_of 8 b) → b ≡ get_or (first_chunks 136 (length m / 136) m) i [] → i < length m / 136 →
+    absorbs t (drop (136 * (i + 1)) m) ≡ absorbs s (drop (136 * i) m)
+absorbs-chunk s m i {b} {t} e front here =
+    let p : List ℕ = take 136 (drop (136 * i) m) in
     let next : 136 * (i + 1) ≡ 136 * i + 136 = omega arith in
-    let whole : b ++ drop (136 * (i + 1)) m ≡ drop (136 * i) m =
-    ap (λ (j : ℕ). b ++ drop j m) next ∙ ap (λ (r : List ℕ). b ++ r) (sym (drop-drop 136 (136 * i) m)) ∙ take-append-drop 136 (drop (136 * i) m) in
+    let whole : p ++ drop (136 * (i + 1)) m ≡ drop (136 * i) m =
+    ap (λ (j : ℕ). p ++ drop j m) next ∙ ap (λ (r : List ℕ). p ++ r) (sym (drop-drop 136 (136 * i) m)) ∙ take-append-drop 136 (drop (136 * i) m) in
     rw (e, front, chunk-at 136 (length m / 136) m i here)
-    (sym (absorbs-block s b (drop (136 * (i + 1)) m) (part-long m (136 * i) 136 (omega arith))) ∙ ap (absorbs s) whole)
+    (sym (absorbs-block s p (drop (136 * (i + 1)) m) (part-long m (136 * i) 136 (omega arith))) ∙ ap (absorbs s) whole)

@@ -6,8 +6,8 @@ use native.Mathlib.Nat.{add-zero}
 use native.Mathlib.Numerals.{add-one}
 use mathlib.Core.List.{List, [], ◌∷◌, ◌++◌, append-nil, append_assoc}
 use mathlib.Core.Bool.{true, false}
-use lib.ListN.{length, take, drop, set, length-set, length-append, drop_of_length-le, replicate, length-replicate, replicate-append-replicate}
-use lib.Seq.{sets, sets-eq, length-sets, drop-drop, drop_at}
+use lib.ListN.{length, get_or, take, drop, set, length-set, length-append, drop_of_length-le, replicate, length-replicate, replicate-append-replicate}
+use lib.Seq.{sets, sets-eq, length-sets, drop-cons, drop-drop, drop_at}
 use borrow.Author.Tests.{le-leb, lt-leb}
 use borrow.Rule.Slice.PartMut.{put_mid}
 use Rattle.words.specs.Words.{bytes}
@@ -24,6 +24,10 @@ length_over at bs d h = ap length (sym (over-sets at bs d h)) ∙ length-sets d 
 pub sets_more : (d : List ℕ) {j j' k k' : ℕ} (v : ℕ) → j' ≡ suc j → k' ≡ suc k → sets d j (bytes k' v) ≡ sets (set d j (v % 256)) j' (bytes k (v / 256))
 unfolding bytes
 sets_more d v p q = rw (p, q)
+
+-- one byte of a copy, and then the others
+pub copy_more : (d s : List ℕ) {j j' f f' : ℕ} → f < length s → j' ≡ suc j → f' ≡ suc f → sets d j (drop f s) ≡ sets (set d j (get_or s f 0)) j' (drop f' s)
+copy_more d s {j} {j'} {f} {f'} h p q = rw (p, q, drop-cons s f 0 h)
 
 -- a part of d that bs was written to whole
 pub over-mid : (at k : ℕ) (bs d : List ℕ) → length bs ≡ k → put_mid at k d bs ≡ over at bs d

@@ -1,7 +1,7 @@
 // Bytes into lent memory: all of them, or none where there is no room.
-ghost use Rattle.std.specs.Prelude.{◌≡◌, ◌++◌, ◌+◌, leb, length};
+ghost use Rattle.std.specs.Prelude.{◌≡◌, ◌++◌, ◌+◌, ◌≤◌, leb, length};
 ghost use Rattle.words.specs.Words.{bytes};
-ghost use Rattle.words.specs.Buffers.{fits, laid};
+ghost use Rattle.words.specs.Buffers.{over, fits, laid};
 
 // Whether n bytes from `at` on lie within `length` bytes; their end may pass 2^64 - 1.
 pub fn has_room(length: usize, at: usize, n: usize) -> bool
@@ -32,13 +32,24 @@ pub fn put_le(d: &mut [u8], at: usize, n: usize, v: u64) -> bool
     room
 }
 
+// All of s, where there is room. It is a loop, for the library's copy of one lent slice into another asks C for
+// `memmove`, and the archive of the C entries asks for `memcpy` and `memset` alone.
+fn store_bytes(d: &mut [u8], at: usize, s: &[u8])
+    requires { at + length s.now ≤ length d.old }
+    ensures { d.new ≡ over at s.now d.old }
+{
+    for (i, byte) in s.iter().enumerate() {
+        d[at + i] = *byte;
+    }
+}
+
 // All of s from `at` on; false, and nothing touched, where there is no room.
 pub fn put_bytes(d: &mut [u8], at: usize, s: &[u8]) -> bool
     ensures { (result ≡ fits at s.now d.old) × (d.new ≡ laid at s.now d.old) }
 {
     let room = has_room(d.len(), at, s.len());
     if room {
-        d[at..at + s.len()].copy_from_slice(s);
+        store_bytes(d, at, s);
     }
     room
 }

@@ -11,14 +11,14 @@ unfolding of_width
 returns-in_err-part c = rw (c.from_residual.ensures, c.in_err-part.was)
 
 pub returns-then-part-ne32 : goal.returns-then-part-ne32
-returns-then-part-ne32 c = rw c.in_ok-part.was (sym (of-width-other _ _ _ _ c.if-part-ne32.true))
+returns-then-part-ne32 c = rw c.in_ok-part.was (sym (of-width-other _ _ _ _ (omega arith)))
 
 pub returns-in_err-hash : goal.returns-in_err-hash
 returns-in_err-hash c =
     let e = err-kept c.ok.ensures.value c.in_err-hash.was in
-    rw (c.from_residual-in_err-hash.ensures, c.in_ok-part.was) (sym (of-width-none _ _ _ _ c.if-part-ne32.false (omega arith) (told read_paper c.read_array.ensures e.1)))
+    rw (c.from_residual-in_err-hash.ensures, c.in_ok-part.was) (sym (of-width-none _ _ _ _ (omega arith) (omega arith) (told read_paper c.read_array.ensures e.1)))
 
 pub returns : goal.returns
 returns c =
     let e = ok_kept c.ok.ensures.value c.in_ok-hash.was in
-    rw c.in_ok-part.was (sym (of-width-read _ _ _ _ c.if-part-ne32.false (omega arith) (told read_paper c.read_array.ensures e)))
+    rw c.in_ok-part.was (sym (of-width-read _ _ _ _ (omega arith) (omega arith) (told read_paper c.read_array.ensures e)))

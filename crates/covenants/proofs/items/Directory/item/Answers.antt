@@ -14,6 +14,6 @@ pub returns-then-has_room : goal.returns-then-has_room
 unfolding directory_item
 returns-then-has_room c = rw (lt-ltb _ _ c.if-self-index.false, lt-ltb _ _ c.if-index-ge-MAX_ITEMS.false, ← c.has_room.ensures, c.if-has_room.true)
 
-pub returns-else-has_room : goal.returns-else-has_room
+pub returns : goal.returns
 unfolding directory_item
-returns-else-has_room c = rw (lt-ltb _ _ c.if-self-index.false, lt-ltb _ _ c.if-index-ge-MAX_ITEMS.false, ← c.has_room.ensures, c.if-has_room.false)
+returns c = rw (lt-ltb _ _ c.if-self-index.false, lt-ltb _ _ c.if-index-ge-MAX_ITEMS.false, ← c.has_room.ensures, c.if-has_room.false)
